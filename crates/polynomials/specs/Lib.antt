@@ -1,0 +1,3 @@
+pub mod Inverse
+pub mod Laws
+pub mod Polynomial
