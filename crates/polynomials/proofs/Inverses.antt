@@ -128,6 +128,14 @@ module _ (n r : ℕ) (pos : 0 < n) (hr : r < 2 ^ n) where
       sym (product-one n r pos hr c hc) ∙ ap (product n r c) (sym eb) ∙ sym (product-assoc n r pos hr c a b)
       ∙ ap (λ (x : ℕ). product n r x b) (product-comm n r pos hr c a ∙ ec) ∙ product-comm n r pos hr 1 b ∙ product-one n r pos hr b hb
 
+  pub inverse-zero : (a : ℕ) → a ≡ 0 → inverse n r a ≡ None
+  unfolding inverse
+  inverse-zero a e = ap (inverse n r) e
+
+  pub inverse-one : (a : ℕ) → a ≡ 1 → inverse n r a ≡ Some a
+  unfolding inverse
+  inverse-one a e = ap (inverse n r) e ∙ ap Some (sym e)
+
   -- whoever finds an inverse has found this one
   pub inverse-some : (a b : ℕ) → a < 2 ^ n → b < 2 ^ n → product n r a b ≡ 1 → inverse n r a ≡ Some b
   inverse-some a b fits hb e = at (inverse n r a) refl
