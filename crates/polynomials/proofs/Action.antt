@@ -40,31 +40,31 @@ module _ (X : ℕ → ℕ) (lin : (a b : ℕ) → X (bitXor a b) ≡ bitXor (X a
   pub action-xor : (b a c : ℕ) → action X b (bitXor a c) ≡ bitXor (action X b a) (action X b c)
   action-xor b a c =
       bin-ind (λ (n : ℕ). action X n (bitXor a c) ≡ bitXor (action X n a) (action X n c))
-        (zero-action (bitXor a c) ∙ sym (ap₂ bitXor (zero-action a) (zero-action c)))
-        (λ n ih. action-step n (bitXor a c)
-          ∙ ap₂ bitXor (xor-bit (n % 2) a c (bit n)) (ap X ih ∙ lin (action X (n / 2) a) (action X (n / 2) c))
-          ∙ swap4 ((n % 2) * a) ((n % 2) * c) (X (action X (n / 2) a)) (X (action X (n / 2) c))
-          ∙ sym (ap₂ bitXor (action-step n a) (action-step n c))) b
+      (zero-action (bitXor a c) ∙ sym (ap₂ bitXor (zero-action a) (zero-action c)))
+      (λ n ih. action-step n (bitXor a c)
+      ∙ ap₂ bitXor (xor-bit (n % 2) a c (bit n)) (ap X ih ∙ lin (action X (n / 2) a) (action X (n / 2) c))
+      ∙ swap4 ((n % 2) * a) ((n % 2) * c) (X (action X (n / 2) a)) (X (action X (n / 2) c))
+      ∙ sym (ap₂ bitXor (action-step n a) (action-step n c))) b
 
   -- linear in b
   pub xor-action : (b c a : ℕ) → action X (bitXor b c) a ≡ bitXor (action X b a) (action X c a)
   xor-action b c a =
       bin-ind (λ (n : ℕ). (m : ℕ) → action X (bitXor n m) a ≡ bitXor (action X n a) (action X m a))
-        (λ m. sym (ap (λ (x : ℕ). bitXor x (action X m a)) (zero-action a)))
-        (λ n ih m. action-step (bitXor n m) a
-          ∙ ap₂ (λ (x y : ℕ). bitXor (x * a) (X (action X y a))) (xor-mod n m 1) (xor-shr n m 1)
-          ∙ ap₂ bitXor (bit-xor (n % 2) (m % 2) a (bit n) (bit m)) (ap X (ih (m / 2)) ∙ lin (action X (n / 2) a) (action X (m / 2) a))
-          ∙ swap4 ((n % 2) * a) ((m % 2) * a) (X (action X (n / 2) a)) (X (action X (m / 2) a))
-          ∙ sym (ap₂ bitXor (action-step n a) (action-step m a))) b c
+      (λ m. sym (ap (λ (x : ℕ). bitXor x (action X m a)) (zero-action a)))
+      (λ n ih m. action-step (bitXor n m) a
+      ∙ ap₂ (λ (x y : ℕ). bitXor (x * a) (X (action X y a))) (xor-mod n m 1) (xor-shr n m 1)
+      ∙ ap₂ bitXor (bit-xor (n % 2) (m % 2) a (bit n) (bit m)) (ap X (ih (m / 2)) ∙ lin (action X (n / 2) a) (action X (m / 2) a))
+      ∙ swap4 ((n % 2) * a) ((m % 2) * a) (X (action X (n / 2) a)) (X (action X (m / 2) a))
+      ∙ sym (ap₂ bitXor (action-step n a) (action-step m a))) b c
 
   -- b(X) commutes with X
   pub action-X : (b a : ℕ) → action X b (X a) ≡ X (action X b a)
   action-X b a =
       bin-ind (λ (n : ℕ). action X n (X a) ≡ X (action X n a))
-        (zero-action (X a) ∙ sym (ap X (zero-action a) ∙ at-zero))
-        (λ n ih. action-step n (X a)
-          ∙ ap₂ bitXor (sym (bit-over X at-zero (n % 2) a (bit n))) (ap X ih)
-          ∙ sym (ap X (action-step n a) ∙ lin ((n % 2) * a) (X (action X (n / 2) a)))) b
+      (zero-action (X a) ∙ sym (ap X (zero-action a) ∙ at-zero))
+      (λ n ih. action-step n (X a)
+      ∙ ap₂ bitXor (sym (bit-over X at-zero (n % 2) a (bit n))) (ap X ih)
+      ∙ sym (ap X (action-step n a) ∙ lin ((n % 2) * a) (X (action X (n / 2) a)))) b
 
   -- (x b)(X) = X b(X)
   pub action-timesX : (b a : ℕ) → action X (2 * b) a ≡ X (action X b a)
@@ -84,10 +84,10 @@ module _ (X : ℕ → ℕ) (lin : (a b : ℕ) → X (bitXor a b) ≡ bitXor (X a
   pub action-comm : (b c a : ℕ) → action X b (action X c a) ≡ action X c (action X b a)
   action-comm b c a =
       bin-ind (λ (n : ℕ). action X n (action X c a) ≡ action X c (action X n a))
-        (zero-action (action X c a) ∙ sym (ap (action X c) (zero-action a) ∙ action-at-zero c))
-        (λ n ih. action-step n (action X c a)
-          ∙ ap₂ bitXor (sym (bit-over (action X c) (action-at-zero c) (n % 2) a (bit n))) (ap X ih ∙ sym (action-X c (action X (n / 2) a)))
-          ∙ sym (ap (action X c) (action-step n a) ∙ action-xor c ((n % 2) * a) (X (action X (n / 2) a)))) b
+      (zero-action (action X c a) ∙ sym (ap (action X c) (zero-action a) ∙ action-at-zero c))
+      (λ n ih. action-step n (action X c a)
+      ∙ ap₂ bitXor (sym (bit-over (action X c) (action-at-zero c) (n % 2) a (bit n))) (ap X ih ∙ sym (action-X c (action X (n / 2) a)))
+      ∙ sym (ap (action X c) (action-step n a) ∙ action-xor c ((n % 2) * a) (X (action X (n / 2) a)))) b
 
 -- the product of polynomials, by the lowest bit of b
 pub clmul-step : (a b : ℕ) → clmul a b ≡ bitXor ((b % 2) * a) (2 * clmul a (b / 2))
@@ -100,11 +100,11 @@ pub action-clmul : (X : ℕ → ℕ) (lin : (a b : ℕ) → X (bitXor a b) ≡ b
 unfolding clmul
 action-clmul X lin a b v =
     bin-ind (λ (n : ℕ). action X (clmul a n) v ≡ action X n (action X a v))
-      (ap (λ (x : ℕ). action X x v) (zero-action timesX timesX-xor a) ∙ zero-action X lin v ∙ sym (zero-action X lin (action X a v)))
-      (λ n ih. ap (λ (x : ℕ). action X x v) (clmul-step a n)
-        ∙ xor-action X lin ((n % 2) * a) (2 * clmul a (n / 2)) v
-        ∙ ap₂ bitXor (bit-over (λ (x : ℕ). action X x v) (zero-action X lin v) (n % 2) a (bit n)) (action-timesX X lin (clmul a (n / 2)) v ∙ ap X ih)
-        ∙ sym (action-step X lin n (action X a v))) b
+    (ap (λ (x : ℕ). action X x v) (zero-action timesX timesX-xor a) ∙ zero-action X lin v ∙ sym (zero-action X lin (action X a v)))
+    (λ n ih. ap (λ (x : ℕ). action X x v) (clmul-step a n)
+    ∙ xor-action X lin ((n % 2) * a) (2 * clmul a (n / 2)) v
+    ∙ ap₂ bitXor (bit-over (λ (x : ℕ). action X x v) (zero-action X lin v) (n % 2) a (bit n)) (action-timesX X lin (clmul a (n / 2)) v ∙ ap X ih)
+    ∙ sym (action-step X lin n (action X a v))) b
 
 -- ---- the ring GF(2)[x]
 
@@ -112,7 +112,7 @@ action-clmul X lin a b v =
 self : (a : ℕ) → action timesX a 1 ≡ a
 self =
     bin-ind (λ (n : ℕ). action timesX n 1 ≡ n) (zero-action timesX timesX-xor 1)
-      (λ n ih. action-step timesX timesX-xor n 1 ∙ ap₂ (λ (x y : ℕ). bitXor x (2 * y)) (mul-one (n % 2)) ih ∙ low-high n)
+    (λ n ih. action-step timesX timesX-xor n 1 ∙ ap₂ (λ (x y : ℕ). bitXor x (2 * y)) (mul-one (n % 2)) ih ∙ low-high n)
 
 pub clmul-one : (a : ℕ) → clmul a 1 ≡ a
 unfolding clmul

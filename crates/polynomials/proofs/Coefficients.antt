@@ -59,5 +59,5 @@ module _ (a : ℕ) where
   clmul-coefficient (suc k) b =
       ap (coefficient (suc k)) (clmul-step a b) ∙ coefficient-xor (suc k) ((b % 2) * a) (2 * clmul a (b / 2))
       ∙ ap₂ bitXor (first b (suc k))
-          (coefficient-timesX k (clmul a (b / 2)) ∙ clmul-coefficient k (b / 2) ∙ ap (λ (f : ℕ → ℕ). total f k) (fun-ext (later b k)))
+      (coefficient-timesX k (clmul a (b / 2)) ∙ clmul-coefficient k (b / 2) ∙ ap (λ (f : ℕ → ℕ). total f k) (fun-ext (later b k)))
       ∙ sym (total-first (term b (suc k)) k)

@@ -47,7 +47,7 @@ xor-above k a b ha hb =
 top-digit : (a : ℕ) → a ≢ 0 → (k : ℕ) × (2 ^ k ≤ a) × (a < 2 ^ suc k)
 top-digit =
     bin-ind (λ (m : ℕ). m ≢ 0 → (k : ℕ) × (2 ^ k ≤ m) × (m < 2 ^ suc k)) (λ ne. absurd (ne refl))
-      (λ m ih ne. go m ne (m / 2) refl ih)
+    (λ m ih ne. go m ne (m / 2) refl ih)
   where
     go : (m : ℕ) → m ≢ 0 → (h : ℕ) → m / 2 ≡ h → (m / 2 ≢ 0 → (k : ℕ) × (2 ^ k ≤ m / 2) × (m / 2 < 2 ^ suc k))
         → (k : ℕ) × (2 ^ k ≤ m) × (m < 2 ^ suc k)
@@ -86,6 +86,7 @@ divides-one (suc (suc d)) p = absurd (go (top-digit (suc (suc d)) (omega arith))
   where
     some : p .0 ≢ 0
     some e = let z : _≡_ {A = ℕ} 0 1 = sym (ap (clmul (suc (suc d))) e ∙ clmul-zero (suc (suc d))) ∙ p .1 in omega arith
+
     go : (k : ℕ) × (2 ^ k ≤ suc (suc d)) × (suc (suc d) < 2 ^ suc k) → ⊥
     go t = at (t .0) (t .1) (t .2)
       where
@@ -113,26 +114,32 @@ module _ (n r : ℕ) (pos : 0 < n) (hr : r < 2 ^ n) where
       record {
         left = left;
         right = product-comm n r pos hr 1 a ∙ product-one n r pos hr a ha;
-        common = λ d p q. (q, subst (Divides d) (ap (λ (x : ℕ). bitXor x A) (sym taken) ∙ cancel m A) (divides-xor d u A p (subst (Divides d) (clmul-pow a j) (divides-mul d a (2 ^ j) q))))
+        common = λ d p q. (q, subst (Divides d) (ap (λ (x : ℕ). bitXor x A) (sym taken) ∙ cancel m A) (divides-xor d u A p (subst (Divides d) (clmul-pow a j) (divides-mul d a (2 ^ j) q))));
       }
     where
       A : ℕ
       A = a * 2 ^ j
+
       m : ℕ
       m = 2 ^ n + r
+
       u : ℕ
       u = bitXor r (a * 2 ^ j % 2 ^ n)
+
       whole : 1 * 2 ^ n + a * 2 ^ j % 2 ^ n ≡ a * 2 ^ j
       whole =
           ap (λ (x : ℕ). x * 2 ^ n + a * 2 ^ j % 2 ^ n) (sym (div-eq-of-lt-le {k = 1} (2 ^ n) {m = a * 2 ^ j} (omega arith) (omega arith)))
           ∙ div-add-mod' (a * 2 ^ j) (2 ^ n)
+
       taken : bitXor m A ≡ u
       taken =
           ap₂ (λ (x y : ℕ). bitXor (x + r) y) (sym (one-mul (2 ^ n))) (sym whole)
           ∙ xor-block n 1 1 r (a * 2 ^ j % 2 ^ n) hr (mod-lt (a * 2 ^ j) (pow-pos n))
           ∙ ap (λ (x : ℕ). x + u) (zero-mul (2 ^ n)) ∙ zero-add u
+
       below : u < 2 ^ n
       below = xor-lt n r (a * 2 ^ j % 2 ^ n) hr (mod-lt (a * 2 ^ j) (pow-pos n))
+
       left : product n r (2 ^ j) a ≡ u
       left =
           ap (remainder n r) (clmul-comm (2 ^ j) a ∙ clmul-pow a j ∙ sym (cancel A m) ∙ xor-comm (bitXor A m) m ∙ ap (bitXor m) (xor-comm A m ∙ taken))
@@ -144,12 +151,12 @@ module _ (n r : ℕ) (pos : 0 < n) (hr : r < 2 ^ n) where
   reduces a u v g h j fits z =
       record {
         left =
-          product-comm n r pos hr (bitXor g (product n r h (2 ^ j))) a ∙ product-xor n r pos hr a g (product n r h (2 ^ j))
-          ∙ ap₂ bitXor (product-comm n r pos hr a g ∙ z .left)
-              (sym (product-assoc n r pos hr a h (2 ^ j)) ∙ ap (λ (x : ℕ). product n r x (2 ^ j)) (product-comm n r pos hr a h ∙ z .right) ∙ shift);
+            product-comm n r pos hr (bitXor g (product n r h (2 ^ j))) a ∙ product-xor n r pos hr a g (product n r h (2 ^ j))
+            ∙ ap₂ bitXor (product-comm n r pos hr a g ∙ z .left)
+            (sym (product-assoc n r pos hr a h (2 ^ j)) ∙ ap (λ (x : ℕ). product n r x (2 ^ j)) (product-comm n r pos hr a h ∙ z .right) ∙ shift);
         right = z .right;
         common = λ d p q. z .common d
-          (subst (Divides d) (cancel u (v * 2 ^ j)) (divides-xor d (bitXor u (v * 2 ^ j)) (v * 2 ^ j) p (subst (Divides d) (clmul-pow v j) (divides-mul d v (2 ^ j) q)))) q
+            (subst (Divides d) (cancel u (v * 2 ^ j)) (divides-xor d (bitXor u (v * 2 ^ j)) (v * 2 ^ j) p (subst (Divides d) (clmul-pow v j) (divides-mul d v (2 ^ j) q)))) q;
       }
     where
       shift : product n r v (2 ^ j) ≡ v * 2 ^ j
@@ -159,14 +166,17 @@ module _ (n r : ℕ) (pos : 0 < n) (hr : r < 2 ^ n) where
   unfolding product
   none a v g h ne z i e =
       ne (divides-one v (subst (Divides v) one (divides-xor v (clmul a i) (clmul q m) (divides-mul v a i (both .0))
-        (subst (Divides v) (clmul-comm m q) (divides-mul v m q (both .1))))))
+      (subst (Divides v) (clmul-comm m q) (divides-mul v m q (both .1))))))
     where
       m : ℕ
       m = 2 ^ n + r
+
       both : Divides v a × Divides v (2 ^ n + r)
       both = z .common v (0, clmul-zero v) (1, clmul-one v)
+
       q : ℕ
       q = divides n r (clmul a i) .0
+
       one : bitXor (clmul a i) (clmul q m) ≡ 1
       one =
           ap (λ (x : ℕ). bitXor x (clmul q m)) (divides n r (clmul a i) .1 ∙ xor-comm (clmul q m) (remainder n r (clmul a i)))
@@ -180,7 +190,7 @@ falls u v s j v1 v2 u1 u2 =
     let w1 : 2 ^ (s + j) ≤ v * 2 ^ j = subst⁻¹ (λ (x : ℕ). x ≤ v * 2 ^ j) p (mul-le-mul-right (2 ^ j) v1) in
     let w2 : v * 2 ^ j < 2 ^ suc (s + j) = subst⁻¹ (λ (x : ℕ). v * 2 ^ j < x) q (mul-lt-mul-of-pos-right v2 (pow-pos j)) in
     let e : bitXor u (v * 2 ^ j) / 2 ^ (s + j) ≡ 0 =
-      xor-shr u (v * 2 ^ j) (s + j) ∙ ap₂ bitXor (one-high (s + j) u u1 u2) (one-high (s + j) (v * 2 ^ j) w1 w2) in
+    xor-shr u (v * 2 ^ j) (s + j) ∙ ap₂ bitXor (one-high (s + j) u u1 u2) (one-high (s + j) (v * 2 ^ j) w1 w2) in
     let d : bitXor u (v * 2 ^ j) < 1 * 2 ^ (s + j) = div-lt-iff-lt-mul (pow-pos (s + j)) .0 (subst⁻¹ (λ (x : ℕ). x < 1) e (zero-lt-suc 0)) in
     omega arith
 
@@ -193,6 +203,7 @@ leads w a big fits = at (leading-top w a (omega arith) fits)
   where
     z : ℕ
     z = leadingZeros w a
+
     at : (p : ℕ) × (leadingZeros w a + suc p ≡ w) × (2 ^ p ≤ a) × (a < 2 ^ suc p)
         → (leadingZeros w a + 1 < w) × (2 ^ w ≤ a * 2 ^ (leadingZeros w a + 1)) × (a * 2 ^ (leadingZeros w a + 1) < 2 * 2 ^ w)
     at t =
@@ -200,10 +211,11 @@ leads w a big fits = at (leading-top w a (omega arith) fits)
         let s : p + (leadingZeros w a + 1) ≡ w = omega (arith, t .1) in
         let e : 2 ^ w ≡ 2 ^ p * 2 ^ (leadingZeros w a + 1) = ap (λ (x : ℕ). 2 ^ x) (sym s) ∙ pow-add 2 p (leadingZeros w a + 1) in
         let f : 2 * 2 ^ w ≡ 2 ^ suc p * 2 ^ (leadingZeros w a + 1) =
-          ap (λ (x : ℕ). 2 * x) e ∙ sym (mul-assoc 2 (2 ^ p) (2 ^ (leadingZeros w a + 1))) ∙ ap (λ (x : ℕ). x * 2 ^ (leadingZeros w a + 1)) (sym (pow-succ' 2 p)) in
-        (omega (arith, t .1, positive p (t .2) (t .3)),
-         subst⁻¹ (λ (x : ℕ). x ≤ a * 2 ^ (leadingZeros w a + 1)) e (mul-le-mul-right (2 ^ (leadingZeros w a + 1)) (t .2)),
-         subst⁻¹ (λ (x : ℕ). a * 2 ^ (leadingZeros w a + 1) < x) f (mul-lt-mul-of-pos-right (t .3) (pow-pos (leadingZeros w a + 1))))
+        ap (λ (x : ℕ). 2 * x) e ∙ sym (mul-assoc 2 (2 ^ p) (2 ^ (leadingZeros w a + 1))) ∙ ap (λ (x : ℕ). x * 2 ^ (leadingZeros w a + 1)) (sym (pow-succ' 2 p)) in (
+          omega (arith, t .1, positive p (t .2) (t .3)),
+          subst⁻¹ (λ (x : ℕ). x ≤ a * 2 ^ (leadingZeros w a + 1)) e (mul-le-mul-right (2 ^ (leadingZeros w a + 1)) (t .2)),
+          subst⁻¹ (λ (x : ℕ). a * 2 ^ (leadingZeros w a + 1) < x) f (mul-lt-mul-of-pos-right (t .3) (pow-pos (leadingZeros w a + 1))),
+        )
       where
         positive : (p : ℕ) → 2 ^ p ≤ a → a < 2 ^ suc p → 0 < p
         positive zero lo hi = omega arith
@@ -226,16 +238,18 @@ levels w u v some le fits = at (leading-top w u (omega arith) fits) (leading-top
         let s : ℕ = y .0 in
         let k : ℕ = leadingZeros w v - leadingZeros w u in
         let below : s ≤ p = elim (decLt p s) [
-            yes l ↦ let m : 2 ^ suc p ≤ 2 ^ s = pow-mono l in omega (arith, t .3, y .2)
-          | no f ↦ omega (arith, f) ] in
+          | yes l ↦ let m : 2 ^ suc p ≤ 2 ^ s = pow-mono l in omega (arith, t .3, y .2)
+          | no f ↦ omega (arith, f)
+        ] in
         let e : s + k ≡ p = omega (arith, t .1, y .1) in
-        let m : 2 ^ (suc s + k) ≤ 2 ^ w = pow-mono (omega (arith, t .1)) in
-        (omega (arith, t .1, y .1),
-         record {
-           small = omega (arith, t .1, y .1);
-           fits = lt-of-lt-of-le (subst⁻¹ (λ (x : ℕ). v * 2 ^ k < x) (pow-add 2 (suc s) k) (mul-lt-mul-of-pos-right (y .3) (pow-pos k))) m;
-           falls = falls u v s k (y .2) (y .3) (subst⁻¹ (λ (x : ℕ). 2 ^ x ≤ u) e (t .2)) (subst⁻¹ (λ (x : ℕ). u < 2 ^ suc x) e (t .3))
-         })
+        let m : 2 ^ (suc s + k) ≤ 2 ^ w = pow-mono (omega (arith, t .1)) in (
+          omega (arith, t .1, y .1),
+          record {
+            small = omega (arith, t .1, y .1);
+            fits = lt-of-lt-of-le (subst⁻¹ (λ (x : ℕ). v * 2 ^ k < x) (pow-add 2 (suc s) k) (mul-lt-mul-of-pos-right (y .3) (pow-pos k))) m;
+            falls = falls u v s k (y .2) (y .3) (subst⁻¹ (λ (x : ℕ). 2 ^ x ≤ u) e (t .2)) (subst⁻¹ (λ (x : ℕ). u < 2 ^ suc x) e (t .3));
+          },
+        )
 
 -- the greater of the two first
 pub record Ordered (n r a u v g h sum : ℕ) : Type 0 where
@@ -270,7 +284,7 @@ module _ (n r : ℕ) (pos : 0 < n) (hr : r < 2 ^ n) where
         small = l .1 .small;
         fits = l .1 .fits;
         bezout = reduces n r pos hr a u v g h (leadingZeros n v - leadingZeros n u) (l .1 .fits) (o .bezout);
-        falls = omega (arith, l .1 .falls, o .same)
+        falls = omega (arith, l .1 .falls, o .same);
       }
 
   -- where the turns begin

@@ -32,23 +32,25 @@ module _ (n r : ℕ) (pos : 0 < n) (hr : r < 2 ^ n) where
   sorted : (a : ℕ) (s : Remainders) → Kept a s → s .u ≢ 0 → Sorted a (ordered s) (s .u + s .v)
   sorted a s k some =
       ⊎-elim
-        (λ (t : ltb (s .u) (s .v) ≡ true).
-          subst (λ (x : Remainders). Sorted a x (s .u + s .v)) (sym (cond-true (ltb (s .u) (s .v)) (record { u = s .v; v = s .u; g = s .h; h = s .g }) s t))
-            (record { order = exchanged n r a (s .u) (s .v) (s .g) (s .h) (k .bezout) some (ltb-true (s .u) (s .v) t); g-fits = k .h-fits; h-fits = k .g-fits }))
-        (λ (t : ltb (s .u) (s .v) ≡ false).
-          subst (λ (x : Remainders). Sorted a x (s .u + s .v)) (sym (cond-false (ltb (s .u) (s .v)) (record { u = s .v; v = s .u; g = s .h; h = s .g }) s t))
-            (record { order = stayed n r a (s .u) (s .v) (s .g) (s .h) (k .bezout) (k .some) (ltb-false (s .u) (s .v) t); g-fits = k .g-fits; h-fits = k .h-fits }))
-        (cases-bool (ltb (s .u) (s .v)))
+      (λ (t : ltb (s .u) (s .v) ≡ true).
+      subst (λ (x : Remainders). Sorted a x (s .u + s .v)) (sym (cond-true (ltb (s .u) (s .v)) (record { u = s .v; v = s .u; g = s .h; h = s .g }) s t))
+      (record { order = exchanged n r a (s .u) (s .v) (s .g) (s .h) (k .bezout) some (ltb-true (s .u) (s .v) t); g-fits = k .h-fits; h-fits = k .g-fits }))
+      (λ (t : ltb (s .u) (s .v) ≡ false).
+      subst (λ (x : Remainders). Sorted a x (s .u + s .v)) (sym (cond-false (ltb (s .u) (s .v)) (record { u = s .v; v = s .u; g = s .h; h = s .g }) s t))
+      (record { order = stayed n r a (s .u) (s .v) (s .g) (s .h) (k .bezout) (k .some) (ltb-false (s .u) (s .v) t); g-fits = k .g-fits; h-fits = k .h-fits }))
+      (cases-bool (ltb (s .u) (s .v)))
 
   turn : (a : ℕ) (s : Remainders) (sum : ℕ) → Sorted a s sum → Kept a (reduced n r s) × (reduced n r s .u + reduced n r s .v < sum)
   turn a s sum o =
-      let t = turned n r pos hr a (s .u) (s .v) (s .g) (s .h) sum (o .order) in
-      (record {
-         bezout = t .bezout;
-         some = o .order .some;
-         g-fits = xor-lt n (s .g) (product n r (s .h) (2 ^ gap n s)) (o .g-fits) (product-lt n r pos hr (s .h) (2 ^ gap n s));
-         h-fits = o .h-fits
-       }, t .falls)
+      let t = turned n r pos hr a (s .u) (s .v) (s .g) (s .h) sum (o .order) in (
+        record {
+          bezout = t .bezout;
+          some = o .order .some;
+          g-fits = xor-lt n (s .g) (product n r (s .h) (2 ^ gap n s)) (o .g-fits) (product-lt n r pos hr (s .h) (2 ^ gap n s));
+          h-fits = o .h-fits;
+        },
+        t .falls,
+      )
 
   ends : (a turns : ℕ) (s : Remainders) → Kept a s → s .u + s .v ≤ turns → Kept a (euclid n r turns s) × (euclid n r turns s .u ≡ 0)
   unfolding euclid
@@ -56,13 +58,13 @@ module _ (n r : ℕ) (pos : 0 < n) (hr : r < 2 ^ n) where
   ends a (suc turns) s k le =
       let more : Remainders = euclid n r turns (reduced n r (ordered s)) in
       ⊎-elim
-        (λ (t : eqb (s .u) 0 ≡ true).
-          subst (λ (x : Remainders). Kept a x × (x .u ≡ 0)) (sym (cond-true (eqb (s .u) 0) s more t)) (k, eqb-true (s .u) 0 t))
-        (λ (t : eqb (s .u) 0 ≡ false).
-          let next = turn a (ordered s) (s .u + s .v) (sorted a s k (eqb-false (s .u) 0 t)) in
-          subst (λ (x : Remainders). Kept a x × (x .u ≡ 0)) (sym (cond-false (eqb (s .u) 0) s more t))
-            (ends a turns (reduced n r (ordered s)) (next .0) (omega (arith, next .1))))
-        (cases-bool (eqb (s .u) 0))
+      (λ (t : eqb (s .u) 0 ≡ true).
+      subst (λ (x : Remainders). Kept a x × (x .u ≡ 0)) (sym (cond-true (eqb (s .u) 0) s more t)) (k, eqb-true (s .u) 0 t))
+      (λ (t : eqb (s .u) 0 ≡ false).
+      let next = turn a (ordered s) (s .u + s .v) (sorted a s k (eqb-false (s .u) 0 t)) in
+      subst (λ (x : Remainders). Kept a x × (x .u ≡ 0)) (sym (cond-false (eqb (s .u) 0) s more t))
+      (ends a turns (reduced n r (ordered s)) (next .0) (omega (arith, next .1))))
+      (cases-bool (eqb (s .u) 0))
 
   starts : (a : ℕ) → a < 2 ^ n → 1 < a → Kept a (started n r a)
   starts a fits big =
@@ -70,7 +72,7 @@ module _ (n r : ℕ) (pos : 0 < n) (hr : r < 2 ^ n) where
         bezout = first n r pos hr a fits big;
         some = omega arith;
         g-fits = pow-lt (leads n a big fits .0);
-        h-fits = pow-lt pos
+        h-fits = pow-lt pos;
       }
 
   final : (a : ℕ) → a < 2 ^ n → 1 < a
@@ -81,27 +83,27 @@ module _ (n r : ℕ) (pos : 0 < n) (hr : r < 2 ^ n) where
   answer-found : (a b : ℕ) (s : Remainders) → Kept a s → answered s ≡ Some b → (b < 2 ^ n) × (product n r a b ≡ 1)
   answer-found a b s k e =
       ⊎-elim
-        (λ (t : eqb (s .v) 1 ≡ true).
-          let is : Some (s .h) ≡ Some b = sym (cond-true (eqb (s .v) 1) (Some (s .h)) None t) ∙ e in
-          let same : s .h ≡ b = cc in
-          subst (λ (x : ℕ). (x < 2 ^ n) × (product n r a x ≡ 1)) same
-            (k .h-fits, last-found n r pos hr a (s .u) (s .v) (s .g) (s .h) (k .bezout) (eqb-true (s .v) 1 t)))
-        (λ (t : eqb (s .v) 1 ≡ false).
-          let is : None ≡ Some b = sym (cond-false (eqb (s .v) 1) (Some (s .h)) None t) ∙ e in
-          let z : _≡_ {A = ℕ} 0 1 = cc in
-          absurd (omega arith))
-        (cases-bool (eqb (s .v) 1))
+      (λ (t : eqb (s .v) 1 ≡ true).
+      let is : Some (s .h) ≡ Some b = sym (cond-true (eqb (s .v) 1) (Some (s .h)) None t) ∙ e in
+      let same : s .h ≡ b = cc in
+      subst (λ (x : ℕ). (x < 2 ^ n) × (product n r a x ≡ 1)) same
+      (k .h-fits, last-found n r pos hr a (s .u) (s .v) (s .g) (s .h) (k .bezout) (eqb-true (s .v) 1 t)))
+      (λ (t : eqb (s .v) 1 ≡ false).
+      let is : None ≡ Some b = sym (cond-false (eqb (s .v) 1) (Some (s .h)) None t) ∙ e in
+      let z : _≡_ {A = ℕ} 0 1 = cc in
+      absurd (omega arith))
+      (cases-bool (eqb (s .v) 1))
 
   answer-none : (a b : ℕ) (s : Remainders) → Kept a s → s .u ≡ 0 → answered s ≡ None → product n r a b ≡ 1 → ⊥
   answer-none a b s k done e =
       ⊎-elim
-        (λ (t : eqb (s .v) 1 ≡ true).
-          let is : Some (s .h) ≡ None = sym (cond-true (eqb (s .v) 1) (Some (s .h)) None t) ∙ e in
-          let z : _≡_ {A = ℕ} 0 1 = cc in
-          absurd (omega arith))
-        (λ (t : eqb (s .v) 1 ≡ false).
-          last-none n r pos hr a (s .u) (s .v) (s .g) (s .h) (k .bezout) done (eqb-false (s .v) 1 t) b)
-        (cases-bool (eqb (s .v) 1))
+      (λ (t : eqb (s .v) 1 ≡ true).
+      let is : Some (s .h) ≡ None = sym (cond-true (eqb (s .v) 1) (Some (s .h)) None t) ∙ e in
+      let z : _≡_ {A = ℕ} 0 1 = cc in
+      absurd (omega arith))
+      (λ (t : eqb (s .v) 1 ≡ false).
+      last-none n r pos hr a (s .u) (s .v) (s .g) (s .h) (k .bezout) done (eqb-false (s .v) 1 t) b)
+      (cases-bool (eqb (s .v) 1))
 
   pub inverse-found : (a b : ℕ) → a < 2 ^ n → inverse n r a ≡ Some b → (b < 2 ^ n) × (product n r a b ≡ 1)
   unfolding inverse

@@ -24,7 +24,7 @@ pub xtime-xor : (n r a b : ℕ) → xtime n r (bitXor a b) ≡ bitXor (xtime n r
 unfolding xtime
 xtime-xor n r a b =
     ap₂ (λ (x y : ℕ). bitXor x (y * (2 ^ n + r))) (timesX-xor a b)
-      (ap (λ (x : ℕ). x / 2 ^ n % 2) (timesX-xor a b) ∙ ap (λ (x : ℕ). x % 2) (xor-shr (2 * a) (2 * b) n) ∙ xor-mod (2 * a / 2 ^ n) (2 * b / 2 ^ n) 1)
+    (ap (λ (x : ℕ). x / 2 ^ n % 2) (timesX-xor a b) ∙ ap (λ (x : ℕ). x % 2) (xor-shr (2 * a) (2 * b) n) ∙ xor-mod (2 * a / 2 ^ n) (2 * b / 2 ^ n) 1)
     ∙ ap (bitXor (bitXor (2 * a) (2 * b))) (bit-xor (2 * a / 2 ^ n % 2) (2 * b / 2 ^ n % 2) (2 ^ n + r) (bit (2 * a / 2 ^ n)) (bit (2 * b / 2 ^ n)))
     ∙ swap4 (2 * a) (2 * b) ((2 * a / 2 ^ n % 2) * (2 ^ n + r)) ((2 * b / 2 ^ n % 2) * (2 ^ n + r))
 
@@ -53,7 +53,7 @@ xtime-shifts n r a hr h =
 pub xtime-lt : (n r a : ℕ) → r < 2 ^ n → a < 2 ^ n → xtime n r a < 2 ^ n
 xtime-lt n r a hr h =
     subst⁻¹ (λ (x : ℕ). x < 2 ^ n) (xtime-shifts n r a hr h)
-      (xor-lt n (2 * a % 2 ^ n) ((2 * a / 2 ^ n) * r) (mod-lt (2 * a) (pow-pos n)) (bit-below (2 * a / 2 ^ n) (top n a h) hr))
+    (xor-lt n (2 * a % 2 ^ n) ((2 * a / 2 ^ n) * r) (mod-lt (2 * a) (pow-pos n)) (bit-below (2 * a / 2 ^ n) (top n a h) hr))
 
 pub remainder-zero : (n r : ℕ) → remainder n r 0 ≡ 0
 unfolding remainder
@@ -74,9 +74,9 @@ remainder-timesX n r a = action-timesX (xtime n r) (xtime-xor n r) a 1
 pub remainder-small : (n r c : ℕ) → c < 2 ^ n → remainder n r c ≡ c
 remainder-small n r c =
     bin-ind (λ (m : ℕ). m < 2 ^ n → remainder n r m ≡ m) (λ h. remainder-zero n r)
-      (λ m ih h. let e : m / 2 < 2 ^ n = omega arith in
-        remainder-step n r m ∙ ap (λ (x : ℕ). bitXor (m % 2) (xtime n r x)) (ih e)
-        ∙ ap (bitXor (m % 2)) (xtime-small n r (m / 2) (omega arith)) ∙ low-high m) c
+    (λ m ih h. let e : m / 2 < 2 ^ n = omega arith in
+    remainder-step n r m ∙ ap (λ (x : ℕ). bitXor (m % 2) (xtime n r x)) (ih e)
+    ∙ ap (bitXor (m % 2)) (xtime-small n r (m / 2) (omega arith)) ∙ low-high m) c
 
 xtime-is : (n r a : ℕ) → xtime n r a ≡ bitXor (2 * a) ((2 * a / 2 ^ n % 2) * (2 ^ n + r))
 unfolding xtime
@@ -86,17 +86,19 @@ xtime-is n r a = refl
 pub divides : (n r c : ℕ) → (q : ℕ) × (c ≡ bitXor (clmul q (2 ^ n + r)) (remainder n r c))
 divides n r =
     bin-ind (λ (c : ℕ). (q : ℕ) × (c ≡ bitXor (clmul q (2 ^ n + r)) (remainder n r c)))
-      (0, sym (ap₂ bitXor (zero-clmul (2 ^ n + r)) (remainder-zero n r)))
-      (λ c ih. (bitXor (2 * ih .0) (carry c), turn c (ih .0) (ih .1)))
+    (0, sym (ap₂ bitXor (zero-clmul (2 ^ n + r)) (remainder-zero n r)))
+    (λ c ih. (bitXor (2 * ih .0) (carry c), turn c (ih .0) (ih .1)))
   where
     carry : ℕ → ℕ
     carry c = 2 * remainder n r (c / 2) / 2 ^ n % 2
+
     regroup : (z A B S : ℕ) → bitXor z (bitXor A B) ≡ bitXor (bitXor A S) (bitXor z (bitXor B S))
     regroup z A B S =
         sym (xor-assoc z A B) ∙ ap (λ (x : ℕ). bitXor x B) (xor-comm z A) ∙ xor-assoc A z B
         ∙ ap (bitXor A) (sym (xor-zero-r (bitXor z B)) ∙ ap (bitXor (bitXor z B)) (sym (xor-self S)) ∙ sym (xor-assoc (bitXor z B) S S)
-          ∙ xor-comm (bitXor (bitXor z B) S) S ∙ ap (bitXor S) (xor-assoc z B S))
+        ∙ xor-comm (bitXor (bitXor z B) S) S ∙ ap (bitXor S) (xor-assoc z B S))
         ∙ sym (xor-assoc A S (bitXor z (bitXor B S)))
+
     turn : (c q : ℕ) → c / 2 ≡ bitXor (clmul q (2 ^ n + r)) (remainder n r (c / 2))
         → c ≡ bitXor (clmul (bitXor (2 * q) (carry c)) (2 ^ n + r)) (remainder n r c)
     turn c q e =
@@ -105,8 +107,8 @@ divides n r =
         sym (low-high c) ∙ ap (λ (x : ℕ). bitXor (c % 2) (2 * x)) e ∙ ap (bitXor (c % 2)) (timesX-xor (clmul q m) p)
         ∙ regroup (c % 2) (2 * clmul q m) (2 * p) (carry c * m)
         ∙ sym (ap₂ bitXor
-            (xor-clmul (2 * q) (carry c) m ∙ ap₂ bitXor (timesX-clmul q m) (bit-clmul (carry c) m (bit (2 * p / 2 ^ n))))
-            (remainder-step n r c ∙ ap (bitXor (c % 2)) (xtime-is n r p)))
+        (xor-clmul (2 * q) (carry c) m ∙ ap₂ bitXor (timesX-clmul q m) (bit-clmul (carry c) m (bit (2 * p / 2 ^ n))))
+        (remainder-step n r c ∙ ap (bitXor (c % 2)) (xtime-is n r p)))
 
 -- x^n is r
 pub remainder-pow : (n r : ℕ) → 0 < n → r < 2 ^ n → remainder n r (2 ^ n) ≡ r
@@ -126,8 +128,8 @@ module _ (n r : ℕ) (pos : 0 < n) (hr : r < 2 ^ n) where
   pub remainder-lt : (c : ℕ) → remainder n r c < 2 ^ n
   remainder-lt =
       bin-ind (λ (m : ℕ). remainder n r m < 2 ^ n) (subst⁻¹ (λ (x : ℕ). x < 2 ^ n) (remainder-zero n r) (pow-pos n))
-        (λ m ih. subst⁻¹ (λ (x : ℕ). x < 2 ^ n) (remainder-step n r m)
-          (xor-lt n (m % 2) (xtime n r (remainder n r (m / 2))) (omega (arith, one-below, bit m)) (xtime-lt n r (remainder n r (m / 2)) hr ih)))
+      (λ m ih. subst⁻¹ (λ (x : ℕ). x < 2 ^ n) (remainder-step n r m)
+      (xor-lt n (m % 2) (xtime n r (remainder n r (m / 2))) (omega (arith, one-below, bit m)) (xtime-lt n r (remainder n r (m / 2)) hr ih)))
 
   pub remainder-remainder : (c : ℕ) → remainder n r (remainder n r c) ≡ remainder n r c
   remainder-remainder c = remainder-small n r (remainder n r c) (remainder-lt c)

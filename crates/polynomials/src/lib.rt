@@ -9,5 +9,4 @@ ghost use Rattle.polynomials.specs.Laws.{Arithmetic};
 /// commutative ring, and the inverse is found exactly where there is one: for every modulus.
 pub fn arithmetic_stands()
     ensures arithmetic { λ _. ⌜ Arithmetic ⌝ }
-{
-}
+{}

@@ -40,7 +40,7 @@ module _ (n r : ℕ) where
   sum-begins a b sum pos hr h e =
       record {
         total = ap (λ (x : ℕ). bitXor x (action (xtime n r) b a)) e ∙ sym (product-action n r pos hr a b h);
-        rest = sym (div-one b)
+        rest = sym (div-one b);
       }
 
   pub sum-turns : (a b i sum power left sum′ power′ left′ : ℕ) → Summed a b i sum power left
@@ -48,13 +48,13 @@ module _ (n r : ℕ) where
   sum-turns a b i sum power left sum′ power′ left′ z es ep el =
       record {
         total =
-          ap (λ (x : ℕ). bitXor x (action (xtime n r) left′ power′)) es
-          ∙ ap₂ (λ (x y : ℕ). bitXor (bitXor sum ((left % 2) * power)) (action (xtime n r) x y)) el ep
-          ∙ xor-assoc sum ((left % 2) * power) (action (xtime n r) (left / 2) (xtime n r power))
-          ∙ ap (bitXor sum) (ap (bitXor ((left % 2) * power)) (action-X (xtime n r) (xtime-xor n r) (left / 2) power)
+            ap (λ (x : ℕ). bitXor x (action (xtime n r) left′ power′)) es
+            ∙ ap₂ (λ (x y : ℕ). bitXor (bitXor sum ((left % 2) * power)) (action (xtime n r) x y)) el ep
+            ∙ xor-assoc sum ((left % 2) * power) (action (xtime n r) (left / 2) (xtime n r power))
+            ∙ ap (bitXor sum) (ap (bitXor ((left % 2) * power)) (action-X (xtime n r) (xtime-xor n r) (left / 2) power)
             ∙ sym (action-step (xtime n r) (xtime-xor n r) left power))
-          ∙ z .total;
-        rest = el ∙ ap (λ (x : ℕ). x / 2) (z .rest) ∙ shr-shr b i 1
+            ∙ z .total;
+        rest = el ∙ ap (λ (x : ℕ). x / 2) (z .rest) ∙ shr-shr b i 1;
       }
 
   pub sum-ends : (a b i sum power left : ℕ) → Summed a b i sum power left → i ≡ n → b < 2 ^ n → sum ≡ product n r a b
@@ -80,7 +80,7 @@ module _ (n r a : ℕ) where
   euclid-begins j u g h one pos hr fits big ej eu eg eo eh =
       let small : 2 ^ (leadingZeros n a + 1) < 2 ^ n = pow-lt (leads n a big fits .0) in
       let g-is : g ≡ 2 ^ (leadingZeros n a + 1) =
-        eg ∙ ap₂ (λ (x y : ℕ). x * 2 ^ (y + 1) % 2 ^ n) eo ej ∙ ap (λ (x : ℕ). x % 2 ^ n) (one-mul (2 ^ (leadingZeros n a + 1))) ∙ mod-eq-of-lt small in
+      eg ∙ ap₂ (λ (x y : ℕ). x * 2 ^ (y + 1) % 2 ^ n) eo ej ∙ ap (λ (x : ℕ). x % 2 ^ n) (one-mul (2 ^ (leadingZeros n a + 1))) ∙ mod-eq-of-lt small in
       let u-is : u ≡ bitXor r (a * 2 ^ (leadingZeros n a + 1) % 2 ^ n) = eu ∙ ap (λ (x : ℕ). bitXor r (a * 2 ^ (x + 1) % 2 ^ n)) ej in
       rw (u-is, g-is, eh) (first n r pos hr a fits big)
 
@@ -99,7 +99,7 @@ module _ (n r a : ℕ) where
       let t = turned n r pos hr a u v g h sum o in
       let k : zv - zu ≡ leadingZeros n v - leadingZeros n u = ap₂ (λ (x y : ℕ). x - y) ev eu in
       let u-is : u′ ≡ bitXor u (v * 2 ^ (leadingZeros n v - leadingZeros n u)) =
-        eu′ ∙ ap (bitXor u) (es ∙ ap (λ (x : ℕ). v * 2 ^ x % 2 ^ n) k ∙ mod-eq-of-lt (t .fits)) in
+      eu′ ∙ ap (bitXor u) (es ∙ ap (λ (x : ℕ). v * 2 ^ x % 2 ^ n) k ∙ mod-eq-of-lt (t .fits)) in
       let g-is : g′ ≡ bitXor g (product n r h (2 ^ (leadingZeros n v - leadingZeros n u))) =
-        eg′ ∙ ap (bitXor g) (ep ∙ ap (λ (x : ℕ). product n r h (2 ^ x)) k) in
+      eg′ ∙ ap (bitXor g) (ep ∙ ap (λ (x : ℕ). product n r h (2 ^ x)) k) in
       rw (u-is, g-is) (t .bezout, t .falls)

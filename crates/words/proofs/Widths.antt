@@ -28,4 +28,4 @@ shifted-out n a by h =
     let e : n + (by - n) ≡ by = omega arith in
     zero-mod (2 ^ n)
     ∙ sym (ap (λ (x : ℕ). a * x % 2 ^ n) (sym (ap (λ (x : ℕ). 2 ^ x) e) ∙ pow-add 2 n (by - n))
-      ∙ ap (λ (x : ℕ). x % 2 ^ n) (mul-left-comm a (2 ^ n) (2 ^ (by - n))) ∙ mul-mod-right (2 ^ n) (a * 2 ^ (by - n)))
+    ∙ ap (λ (x : ℕ). x % 2 ^ n) (mul-left-comm a (2 ^ n) (2 ^ (by - n))) ∙ mul-mod-right (2 ^ n) (a * 2 ^ (by - n)))

@@ -17,22 +17,22 @@ unfolding product
 returns c =
     record {
       arithmetic =
-        record {
-          remainder =
-            record {
-              coefficients = λ k a b. clmul-coefficient a k b;
-              multiple = λ n r a b. let d = divides n r (clmul a b) in (d .0, moved (clmul a b) (clmul (d .0) (2 ^ n + r)) (product n r a b) (d .1));
-              short = λ n r a b pos hr. product-lt n r pos hr a b;
-              only = λ n r a b c q pos hr h e. remainder-only n r pos hr (clmul a b) q c h (sym (ap (λ (x : ℕ). bitXor x c) (sym e) ∙ cancel (clmul a b) c))
-            };
-          ring = λ n r pos hr.
-            record {
-              closed = product-lt n r pos hr;
-              comm = product-comm n r pos hr;
-              assoc = product-assoc n r pos hr;
-              distrib = product-xor n r pos hr;
-              unit = product-one n r pos hr
-            };
-          inverses = λ n r pos hr. record { found = inverse-found n r pos hr; none = inverse-none n r pos hr }
-        }
+          record {
+            remainder =
+                record {
+                  coefficients = λ k a b. clmul-coefficient a k b;
+                  multiple = λ n r a b. let d = divides n r (clmul a b) in (d .0, moved (clmul a b) (clmul (d .0) (2 ^ n + r)) (product n r a b) (d .1));
+                  short = λ n r a b pos hr. product-lt n r pos hr a b;
+                  only = λ n r a b c q pos hr h e. remainder-only n r pos hr (clmul a b) q c h (sym (ap (λ (x : ℕ). bitXor x c) (sym e) ∙ cancel (clmul a b) c));
+                };
+            ring = λ n r pos hr.
+                record {
+                  closed = product-lt n r pos hr;
+                  comm = product-comm n r pos hr;
+                  assoc = product-assoc n r pos hr;
+                  distrib = product-xor n r pos hr;
+                  unit = product-one n r pos hr;
+                };
+            inverses = λ n r pos hr. record { found = inverse-found n r pos hr; none = inverse-none n r pos hr };
+          };
     }

@@ -45,17 +45,18 @@ loop-low-holds g c =
     let laws = g .W·Word·met in
     let low = m .value (c .args .low) in
     let a = m .value (c .args .a) in
-    let more = big a (c .if-is-zero .ensures tt) (c .if-is-one .ensures tt) in
-    (euclid-begins (m .size) low a (c .leading-zeros-j .result) (m .value (c .add-u .result)) (m .value (c .shifted-g .result)) (m .value (c .one-h .result)) (m .value (c .one .result))
-       (laws .some) (laws .below (c .args .low)) (laws .below (c .args .a)) more
-       (c .leading-zeros-j .ensures) (c .add-u .ensures ∙ ap (bitXor low) (c .shifted .ensures)) (c .shifted-g .ensures) (c .one .ensures) (c .one-h .ensures),
-     omega (arith, more))
+    let more = big a (c .if-is-zero .ensures tt) (c .if-is-one .ensures tt) in (
+      euclid-begins (m .size) low a (c .leading-zeros-j .result) (m .value (c .add-u .result)) (m .value (c .shifted-g .result)) (m .value (c .one-h .result)) (m .value (c .one .result))
+          (laws .some) (laws .below (c .args .low)) (laws .below (c .args .a)) more
+          (c .leading-zeros-j .ensures) (c .add-u .ensures ∙ ap (bitXor low) (c .shifted .ensures)) (c .shifted-g .ensures) (c .one .ensures) (c .one-h .ensures),
+      omega (arith, more),
+    )
 
 -- the greater of the two is first, whichever way the exchange went
 order : (g : given.Over) (c : Joined-is-below g)
     → let m = g .W·Word in
-      Ordered (m .size) (m .value (c .args .low)) (m .value (c .args .a)) (m .value (c .if-is-below .u)) (m .value (c .if-is-below .v)) (m .value (c .if-is-below .g)) (m .value (c .if-is-below .h))
-        (m .value (c .loop-low .u) + m .value (c .loop-low .v))
+    Ordered (m .size) (m .value (c .args .low)) (m .value (c .args .a)) (m .value (c .if-is-below .u)) (m .value (c .if-is-below .v)) (m .value (c .if-is-below .g)) (m .value (c .if-is-below .h))
+    (m .value (c .loop-low .u) + m .value (c .loop-low .v))
 order g c =
     let m = g .W·Word in
     let low = m .value (c .args .low) in
@@ -64,11 +65,11 @@ order g c =
     let v = m .value (c .loop-low .v) in
     let some : u ≢ 0 = eqb-false u 0 (sym (c .loop-low-test .ensures tt)) in
     elim (c .if-is-below .came) [
-      then-is-below w ↦
-        euclid-exchanges (m .size) low a u v (m .value (c .loop-low .g)) (m .value (c .loop-low .h)) _ _ _ _ (c .loop-low .inv .0) some
+      | then-is-below w ↦
+          euclid-exchanges (m .size) low a u v (m .value (c .loop-low .g)) (m .value (c .loop-low .h)) _ _ _ _ (c .loop-low .inv .0) some
           (ltb-true u v (sym (w .if-is-below .ensures tt))) (ap (m .value) (w .u-is)) (ap (m .value) (w .v-is)) (ap (m .value) (w .g-is)) (ap (m .value) (w .h-is))
-    | else-is-below w ↦
-        euclid-stays (m .size) low a u v (m .value (c .loop-low .g)) (m .value (c .loop-low .h)) _ _ _ _ (c .loop-low .inv .0) (c .loop-low .inv .1)
+      | else-is-below w ↦
+          euclid-stays (m .size) low a u v (m .value (c .loop-low .g)) (m .value (c .loop-low .h)) _ _ _ _ (c .loop-low .inv .0) (c .loop-low .inv .1)
           (ltb-false u v (sym (w .if-is-below .ensures tt))) (ap (m .value) (w .u-is)) (ap (m .value) (w .v-is)) (ap (m .value) (w .g-is)) (ap (m .value) (w .h-is))
     ]
 
@@ -81,18 +82,18 @@ sub-k g c =
 
 turn : (g : given.Over) (c : need.After-add-g g)
     → let m = g .W·Word in
-      Bezout (m .size) (m .value (c .args .low)) (m .value (c .args .a)) (m .value (c .add-u-in-loop-low .result)) (m .value (c .if-is-below .v)) (m .value (c .add-g .result)) (m .value (c .if-is-below .h))
-      × (m .value (c .add-u-in-loop-low .result) + m .value (c .if-is-below .v) < m .value (c .loop-low .u) + m .value (c .loop-low .v))
+    Bezout (m .size) (m .value (c .args .low)) (m .value (c .args .a)) (m .value (c .add-u-in-loop-low .result)) (m .value (c .if-is-below .v)) (m .value (c .add-g .result)) (m .value (c .if-is-below .h))
+    × (m .value (c .add-u-in-loop-low .result) + m .value (c .if-is-below .v) < m .value (c .loop-low .u) + m .value (c .loop-low .v))
 turn g c =
     let m = g .W·Word in
     let laws = g .W·Word·met in
     euclid-turns (m .size) (m .value (c .args .low)) (m .value (c .args .a))
-      (m .value (c .if-is-below .u)) (m .value (c .if-is-below .v)) (m .value (c .if-is-below .g)) (m .value (c .if-is-below .h)) _
-      (c .leading-zeros .result) (c .leading-zeros-in-loop-low .result) (m .value (c .shifted-in-loop-low .result)) (m .value (c .add-u-in-loop-low .result))
-      (m .value (c .times-power .result)) (m .value (c .add-g .result))
-      (laws .some) (laws .below (c .args .low)) (order g (need.at·loop-low-again g c .Joined-is-below))
-      (c .leading-zeros .ensures) (c .leading-zeros-in-loop-low .ensures) (c .shifted-in-loop-low .ensures) (c .add-u-in-loop-low .ensures)
-      (c .times-power .ensures) (c .add-g .ensures)
+    (m .value (c .if-is-below .u)) (m .value (c .if-is-below .v)) (m .value (c .if-is-below .g)) (m .value (c .if-is-below .h)) _
+    (c .leading-zeros .result) (c .leading-zeros-in-loop-low .result) (m .value (c .shifted-in-loop-low .result)) (m .value (c .add-u-in-loop-low .result))
+    (m .value (c .times-power .result)) (m .value (c .add-g .result))
+    (laws .some) (laws .below (c .args .low)) (order g (need.at·loop-low-again g c .Joined-is-below))
+    (c .leading-zeros .ensures) (c .leading-zeros-in-loop-low .ensures) (c .shifted-in-loop-low .ensures) (c .add-u-in-loop-low .ensures)
+    (c .times-power .ensures) (c .add-g .ensures)
 
 pub loop-low-less : need.loop-low-less
 loop-low-less g c = turn g c .1
@@ -110,8 +111,8 @@ returns-then-is-one-2 g c =
     let v = m .value (c .loop-low .v) in
     let h = m .value (c .loop-low .h) in
     sym (inverse-some (m .size) low (laws .some) (laws .below (c .args .low)) a h (laws .below (c .args .a)) (laws .below (c .loop-low .h))
-      (last-found (m .size) low (laws .some) (laws .below (c .args .low)) a u v (m .value (c .loop-low .g)) h (c .loop-low .inv .0)
-        (eqb-true v 1 (sym (c .if-is-one-2 .ensures tt)))))
+    (last-found (m .size) low (laws .some) (laws .below (c .args .low)) a u v (m .value (c .loop-low .g)) h (c .loop-low .inv .0)
+    (eqb-true v 1 (sym (c .if-is-one-2 .ensures tt)))))
 
 pub returns-else-is-one-2 : need.returns-else-is-one-2
 returns-else-is-one-2 g c =
@@ -122,5 +123,5 @@ returns-else-is-one-2 g c =
     let u = m .value (c .loop-low .u) in
     let v = m .value (c .loop-low .v) in
     sym (inverse-lacks (m .size) low (laws .some) (laws .below (c .args .low)) a (laws .below (c .args .a))
-      (last-none (m .size) low (laws .some) (laws .below (c .args .low)) a u v (m .value (c .loop-low .g)) (m .value (c .loop-low .h)) (c .loop-low .inv .0)
-        (eqb-true u 0 (sym (c .loop-low-test .ensures tt))) (eqb-false v 1 (sym (c .if-is-one-2 .ensures tt)))))
+    (last-none (m .size) low (laws .some) (laws .below (c .args .low)) a u v (m .value (c .loop-low .g)) (m .value (c .loop-low .h)) (c .loop-low .inv .0)
+    (eqb-true u 0 (sym (c .loop-low-test .ensures tt))) (eqb-false v 1 (sym (c .if-is-one-2 .ensures tt)))))

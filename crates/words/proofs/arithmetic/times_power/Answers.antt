@@ -17,7 +17,7 @@ loop-i-again g c =
     let laws = g .W·Word·met in
     c .xtime-power .ensures
     ∙ power-turns (m .size) (m .value (c .args .low)) (m .value (c .args .a)) (c .loop-i .i) (m .value (c .loop-i .power))
-        (laws .some) (laws .below (c .args .low)) (laws .below (c .args .a)) (c .loop-i .inv)
+    (laws .some) (laws .below (c .args .low)) (laws .below (c .args .a)) (c .loop-i .inv)
 
 pub returns : need.returns
 returns g c =

@@ -1,0 +1,4 @@
+pub mod Blocks
+pub mod Ring
+pub mod Rings
+pub mod Sums
