@@ -6,8 +6,8 @@
 
 use rings::BlockRing;
 use rings::modular::Ring1;
-use rings::modular::Ring16;
 use rings::modular::Ring8;
+use rings::modular::Ring16;
 use rings::sums;
 use std::alloc::Global;
 use std::error::AnyError;
@@ -62,7 +62,12 @@ fn show_block<R: BlockRing>(heap: Global, block: R, count: usize) -> Result<Stri
     show_bytes(heap, bytes.as_slice())
 }
 
-fn answer<R: BlockRing>(heap: Global, operation: &str, a: &str, b: &str) -> Result<String, AnyError> {
+fn answer<R: BlockRing>(
+    heap: Global,
+    operation: &str,
+    a: &str,
+    b: &str,
+) -> Result<String, AnyError> {
     let width = R::width();
     let block: R = parse_block(heap, a)?;
     match operation {

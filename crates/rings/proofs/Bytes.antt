@@ -12,9 +12,9 @@ use lib.Pow.{pow-add, pow-pos}
 use Rattle.std.specs.shelf.Digits.{number, Under}
 use Rattle.std.proofs.shelf.Bits.{mod-low, mod-below, div-add-mod'}
 use Rattle.std.proofs.shelf.Digits.{number-lt}
-use Rattle.std.proofs.shelf.Elements.{all-take}
+use Rattle.std.proofs.shelf.Elements.{all-take, all-drop}
 use Rattle.std.proofs.shelf.Lists.{drop-drop, getD-append-left, getD-append-right, take-more, take-more-set}
-use Rattle.rings.specs.Blocks.{bytesOf, firstBlocks}
+use Rattle.rings.specs.Blocks.{bytesOf, blockAt, firstBlocks}
 
 pub pow-bytes : (w : ℕ) → 256 ^ w ≡ 2 ^ (8 * w)
 pow-bytes zero = refl
@@ -107,24 +107,19 @@ block-inside i n w h =
     omega (arith, mul-le-mul-right w le, div-mul-le-self n w, suc-mul i w)
 
 -- w bytes, or fewer, write a block
-pub block-below : (w : ℕ) (bs : List ℕ) → Under 256 bs → number 256 (take w bs) < 2 ^ (8 * w)
-block-below w bs under =
+first-below : (w : ℕ) (bs : List ℕ) → Under 256 bs → number 256 (take w bs) < 2 ^ (8 * w)
+first-below w bs under =
     let short : length (take w bs) ≤ w = simp length-take (omega arith) in
     subst (λ (n : ℕ). number 256 (take w bs) < n) (pow-bytes w)
     (lt-of-lt-of-le (number-lt 256 (take w bs) (all-take (λ (d : ℕ). d < 256) w bs under)) (pow-le-pow-right (omega arith) short))
+
+pub block-below : (w i : ℕ) (bs : List ℕ) → Under 256 bs → blockAt w i bs < 2 ^ (8 * w)
+block-below w i bs under = first-below w (drop (i * w) bs) (all-drop (λ (d : ℕ). d < 256) (i * w) bs under)
 
 pub blocks-none : (w : ℕ) (bs : List ℕ) → firstBlocks w 0 bs ≡ []
 unfolding firstBlocks
 blocks-none w bs = refl
 
--- one more block at the end
-blocks-push : (w m : ℕ) (bs : List ℕ) → firstBlocks w (suc m) bs ≡ firstBlocks w m bs ++ (number 256 (take w (drop (m * w) bs)) ∷ [])
+pub blocks-more : (w m : ℕ) (bs : List ℕ) → firstBlocks w (m + 1) bs ≡ firstBlocks w m bs ++ (blockAt w m bs ∷ [])
 unfolding firstBlocks
-blocks-push w zero bs = ap (λ (n : ℕ). number 256 (take w (drop n bs)) ∷ []) (sym (zero-mul w))
-blocks-push w (suc m) bs =
-    let past : drop (m * w) (drop w bs) ≡ drop (suc m * w) bs = drop-drop (m * w) w bs ∙ ap (λ (n : ℕ). drop n bs) (omega (arith, suc-mul m w)) in
-    ap (λ (l : List ℕ). number 256 (take w bs) ∷ l)
-    (blocks-push w m (drop w bs) ∙ ap (λ (l : List ℕ). firstBlocks w m (drop w bs) ++ (number 256 (take w l) ∷ [])) past)
-
-pub blocks-more : (w m : ℕ) (bs : List ℕ) → firstBlocks w (m + 1) bs ≡ firstBlocks w m bs ++ (number 256 (take w (drop (m * w) bs)) ∷ [])
-blocks-more w m bs = ap (λ (n : ℕ). firstBlocks w n bs) (add-one m) ∙ blocks-push w m bs
+blocks-more w m bs = ap (λ (n : ℕ). firstBlocks w n bs) (add-one m)

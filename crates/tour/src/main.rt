@@ -6,6 +6,7 @@ use rings::sums;
 use std::io;
 
 const SECTOR_LENGTH: usize = 512;
+
 const BLOCK_COUNT: usize = 32;
 
 /// A hash value as a key might give it.
@@ -44,11 +45,17 @@ fn walk(rt: &impl Print) -> io::Result<()> {
     let sector = counting_bytes();
     let first = u128::from_bytes(&sector[0..16]);
     let last = u128::from_bytes(&sector[496..512]);
-    println!(rt, "A sector of 512 bytes as 32 blocks of the ring of 16 bytes")?;
+    println!(
+        rt,
+        "A sector of 512 bytes as 32 blocks of the ring of 16 bytes"
+    )?;
     println!(rt, "  B_1                   {first:032x}")?;
     println!(rt, "  B_32                  {last:032x}")?;
     let sum = sums::hash_sum(TAU, &sector);
-    println!(rt, "Its hash sum under a hash value τ, and the power sum σ of as many powers")?;
+    println!(
+        rt,
+        "Its hash sum under a hash value τ, and the power sum σ of as many powers"
+    )?;
     println!(rt, "  H(τ; B_1..B_32)       {sum:032x}")?;
     show_power_sum(rt, TAU)?;
     println!(rt, "The same with a cube root of 1 for τ")?;

@@ -5,5 +5,4 @@ ghost use Rattle.worked.specs.Worked.{Worked};
 /// Each case of the table holds of the definitions that the contracts cite.
 pub fn worked_cases()
     ensures worked { λ _. ⌜ Worked ⌝ }
-{
-}
+{}

@@ -9,8 +9,8 @@ unfolding actionIn action clmul xtime remainder product euclid inverse leadingZe
 returns c =
     record {
       worked =
-        record {
-          byteRing = record { product = refl; inverse = refl; zero = refl };
-          reducible = record { unit = refl; divisor = refl }
-        }
+          record {
+            byteRing = record { product = refl; inverse = refl; zero = refl };
+            reducible = record { unit = refl; divisor = refl };
+          };
     }
