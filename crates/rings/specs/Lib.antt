@@ -1,4 +1,5 @@
 pub mod Blocks
 pub mod Ring
 pub mod Rings
+pub mod Rows
 pub mod Sums

@@ -119,5 +119,4 @@ impl Xtea {
 /// Each map undoes the other, for every key and every block.
 pub fn deciphering_undoes_enciphering()
     ensures undoing { λ _. ⌜ Undoing ⌝ }
-{
-}
+{}

@@ -31,8 +31,8 @@ loop-i-again g c =
     let sum = m .value (c .loop-i .sum) in
     let under : Under 256 bytes = all-from-getD (λ (d : ℕ). d < 256) bytes 0 (λ k _. c .typed .sector k .fits) in
     hashSum-turns (m .ring) τ sum (blockAt w i bytes) (m .value (c .multiply-sum .result)) (firstBlocks w i bytes)
-      (g .R·BlockRing·met .below (c .args .tau)) (block-below w i bytes under) (c .loop-i .inv)
-      (c .multiply-sum .ensures ∙ ap (λ (x : ℕ). m .ring .product x τ) (c .add .ensures ∙ ap (bitXor sum) (c .block-at .ensures)))
+    (g .R·BlockRing·met .below (c .args .tau)) (block-below w i bytes under) (c .loop-i .inv)
+    (c .multiply-sum .ensures ∙ ap (λ (x : ℕ). m .ring .product x τ) (c .add .ensures ∙ ap (bitXor sum) (c .block-at .ensures)))
     ∙ ap (hashSum (m .ring) τ) (sym (blocks-more w i bytes))
 
 pub returns : need.returns

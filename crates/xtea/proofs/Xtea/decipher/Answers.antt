@@ -15,10 +15,11 @@ pub loop-i-again : need.loop-i-again
 unfolding minus
 loop-i-again c =
     let i = c .loop-i .i in
-    let s = c .loop-i .s in
-    (sum-back i s (c .loop-i-test .taken) (c .loop-i .inv .0),
-     inv-turn (c .args .self .now .words) _ i (c .loop-i .v0) (c .loop-i .v1) s _ _
-       (c .loop-i-test .taken) (c .loop-i .inv .0) (c .loop-i .inv .1) (c .change-by-v1 .ensures) (c .change-by-v0 .ensures))
+    let s = c .loop-i .s in (
+      sum-back i s (c .loop-i-test .taken) (c .loop-i .inv .0),
+      inv-turn (c .args .self .now .words) _ i (c .loop-i .v0) (c .loop-i .v1) s _ _
+          (c .loop-i-test .taken) (c .loop-i .inv .0) (c .loop-i .inv .1) (c .change-by-v1 .ensures) (c .change-by-v0 .ensures),
+    )
 
 pub returns : need.returns
 unfolding decipher blockOf wordsOf roundsBack pair
@@ -29,7 +30,7 @@ returns c =
     let done = ap (λ (n : ℕ). roundsBack ks n (pair (c .loop-i .v0) (c .loop-i .v1))) is ∙ c .loop-i .inv .1 in
     record {
       block-is-deciphered =
-        c .block-of .ensures
-        ∙ ap blockOf (done ∙ ap (roundsBack ks 32) read)
-        ∙ ap (λ (k : List ℕ). blockOf (roundsBack k 32 (wordsOf (c .args .block)))) (c .args .self .now .scheduled)
+          c .block-of .ensures
+          ∙ ap blockOf (done ∙ ap (roundsBack ks 32) read)
+          ∙ ap (λ (k : List ℕ). blockOf (roundsBack k 32 (wordsOf (c .args .block)))) (c .args .self .now .scheduled);
     }

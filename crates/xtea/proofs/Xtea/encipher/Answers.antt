@@ -15,10 +15,11 @@ pub loop-i-again : need.loop-i-again
 unfolding plus
 loop-i-again c =
     let i = c .loop-i .i in
-    let s = c .loop-i .s in
-    (sum-next i s (c .loop-i .inv .0),
-     turn (c .args .self .now .words) _ i (c .loop-i .v0) (c .loop-i .v1) s _ _
-       (c .loop-i .inv .0) (c .loop-i .inv .1) (c .change-by-v0 .ensures) (c .change-by-v1 .ensures))
+    let s = c .loop-i .s in (
+      sum-next i s (c .loop-i .inv .0),
+      turn (c .args .self .now .words) _ i (c .loop-i .v0) (c .loop-i .v1) s _ _
+          (c .loop-i .inv .0) (c .loop-i .inv .1) (c .change-by-v0 .ensures) (c .change-by-v1 .ensures),
+    )
 
 pub returns : need.returns
 unfolding encipher blockOf wordsOf pair
@@ -28,7 +29,7 @@ returns c =
     let is : c .loop-i .i ≡ 32 = omega (arith, c .loop-i .kept .i-end) in
     record {
       block-is-enciphered =
-        c .block-of .ensures
-        ∙ ap blockOf (c .loop-i .inv .1 ∙ ap₂ (λ (n : ℕ) (v : Words). rounds ks n v) is read)
-        ∙ ap (λ (k : List ℕ). blockOf (rounds k 32 (wordsOf (c .args .block)))) (c .args .self .now .scheduled)
+          c .block-of .ensures
+          ∙ ap blockOf (c .loop-i .inv .1 ∙ ap₂ (λ (n : ℕ) (v : Words). rounds ks n v) is read)
+          ∙ ap (λ (k : List ℕ). blockOf (rounds k 32 (wordsOf (c .args .block)))) (c .args .self .now .scheduled);
     }
