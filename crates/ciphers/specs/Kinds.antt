@@ -3,10 +3,12 @@ use mathlib.Core.List.{List}
 use Prim.Native.Nat.{ℕ, _*_}
 use lib.Bits.{bitXor, xor-lt}
 use Rattle.std.specs.shelf.Digits.{number}
+use Rattle.aes.specs.Aes.{encipher as aesEncipher, decipher as aesDecipher}
+use Rattle.aes.proofs.Blocks.{undoing}
 use Rattle.polynomials.proofs.Xor.{cancel}
 use Rattle.rings.specs.Ring.{RingKind}
-use Rattle.rings.specs.Rings.{ring8}
-use Rattle.rings.proofs.Rows.{row-block}
+use Rattle.rings.specs.Rings.{ring8, ring16}
+use Rattle.rings.proofs.Rows.{row-block, row-parts}
 use Rattle.xtea.specs.Xtea.{encipher as xteaEncipher, decipher as xteaDecipher}
 use Rattle.xtea.proofs.Undoing.{encipher-lt, decipher-lt, undone, redone}
 use Rattle.ciphers.specs.Cipher.{CipherKind}
@@ -38,4 +40,16 @@ xtea = record {
   decipher-block = λ key x _ small. decipher-lt key x small;
   undone = λ key x _ small. undone key x small;
   redone = λ key x _ small. redone key x small;
+}
+
+abbrev pub aes128 : CipherKind
+aes128 = record {
+  ring = ring16;
+  keyLength = 16;
+  encipher = aesEncipher;
+  decipher = aesDecipher;
+  encipher-block = λ key x good small. undoing .closed key x (row-parts 16 key good) small;
+  decipher-block = λ key x good small. undoing .closedBack key x (row-parts 16 key good) small;
+  undone = λ key x good small. undoing .undone key x (row-parts 16 key good) small;
+  redone = λ key x good small. undoing .redone key x (row-parts 16 key good) small;
 }

@@ -1,0 +1,3 @@
+pub mod Aes
+pub mod Columns
+pub mod Laws
