@@ -9,7 +9,7 @@ use lib.Pow.{pow-pos, pow-lt}
 use lib.Bits.{bitXor, xor-comm, xor-assoc, xor-self, xor-zero-r, xor-shr, xor-mod, xor-block, xor-lt, xor-shifted}
 use Rattle.polynomials.specs.Polynomial.{actionIn, action, clmul, timesX, xtime, remainder, product}
 use Rattle.polynomials.proofs.Xor.{swap4, cancel, timesX-xor, low-high, bit-xor, xor-bit, bit-over}
-use Rattle.polynomials.proofs.Action.{zero-action, action-step, action-xor, xor-action, action-timesX, action-at-zero, action-clmul, clmul-one, clmul-comm, clmul-assoc, clmul-xor, xor-clmul, clmul-step, zero-clmul, timesX-clmul, bit-clmul}
+use Rattle.polynomials.proofs.Action.{zero-action, action-step, action-xor, xor-action, action-timesX, action-one, action-at-zero, action-clmul, clmul-one, clmul-comm, clmul-assoc, clmul-xor, xor-clmul, clmul-step, zero-clmul, timesX-clmul, bit-clmul}
 
 bit : (b : ℕ) → b % 2 < 2
 bit b = mod-lt b (zero-lt-suc 1)
@@ -185,3 +185,9 @@ module _ (n r : ℕ) (pos : 0 < n) (hr : r < 2 ^ n) where
   pub product-action : (a b : ℕ) → a < 2 ^ n → product n r a b ≡ action (xtime n r) b a
   unfolding product
   product-action a b h = remainder-clmul a b ∙ ap (action (xtime n r) b) (remainder-small n r a h)
+
+  -- x times a polynomial
+  pub product-alpha : (a : ℕ) → a < 2 ^ n → product n r 2 a ≡ xtime n r a
+  product-alpha a h =
+      product-comm 2 a ∙ product-action a 2 h ∙ action-timesX (xtime n r) (xtime-xor n r) 1 a
+      ∙ ap (xtime n r) (action-one (xtime n r) (xtime-xor n r) a)

@@ -16,7 +16,7 @@ blockAt w i bytes = number 256 (take w (drop (i * w) bytes))
 -- the first m blocks of w bytes
 unfoldable pub firstBlocks : ℕ → ℕ → List ℕ → List ℕ
 firstBlocks w zero bytes = []
-firstBlocks w (suc m) bytes = firstBlocks w m bytes ++ (blockAt w m bytes ∷ [])
+firstBlocks w (suc m) bytes = number 256 (take w bytes) ∷ firstBlocks w m (drop w bytes)
 
 -- the whole blocks B_1..B_m; the bytes after them do not count
 abbrev pub blocks : ℕ → List ℕ → List ℕ

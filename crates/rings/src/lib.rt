@@ -61,6 +61,13 @@ pub trait BlockRing: Copy {
     fn multiply(self, other: Self) -> Self
         ensures { λ r. ⌜ value r ≡ ring .product (value self) (value other) ⌝ };
 
+    /// α times the block.
+    fn times_alpha(self) -> Self
+        ensures { λ r. ⌜ value r ≡ ring .product 2 (value self) ⌝ }
+    {
+        Self::alpha().multiply(self)
+    }
+
     /// The block whose product with this one is 1, and `None` exactly where no block has that product.
     fn inverse(self) -> Option<Self>
         ensures { λ r. ⌜ valued value r ≡ ring .inverse (value self) ⌝ };

@@ -34,6 +34,10 @@ pub impl BlockRing for u8 as Ring1 {
         arithmetic::multiply(0x1b, self, other)
     }
 
+    fn times_alpha(self) -> u8 {
+        arithmetic::xtime(0x1b, self)
+    }
+
     fn inverse(self) -> Option<u8> {
         arithmetic::inverse(0x1b, self)
     }
@@ -70,6 +74,10 @@ pub impl BlockRing for u64 as Ring8 {
 
     fn multiply(self, other: u64) -> u64 {
         arithmetic::multiply(0x1b, self, other)
+    }
+
+    fn times_alpha(self) -> u64 {
+        arithmetic::xtime(0x1b, self)
     }
 
     fn inverse(self) -> Option<u64> {
@@ -112,6 +120,10 @@ pub impl BlockRing for u128 as Ring16 {
 
     fn multiply(self, other: u128) -> u128 {
         arithmetic::multiply(0x87, self, other)
+    }
+
+    fn times_alpha(self) -> u128 {
+        arithmetic::xtime(0x87, self)
     }
 
     fn inverse(self) -> Option<u128> {
