@@ -131,7 +131,7 @@ blocks-push w zero bs = ap (λ (n : ℕ). number 256 (take w (drop n bs)) ∷ []
 blocks-push w (suc m) bs =
     let past : drop (m * w) (drop w bs) ≡ drop (suc m * w) bs = drop-drop (m * w) w bs ∙ ap (λ (n : ℕ). drop n bs) (omega (arith, suc-mul m w)) in
     ap (λ (l : List ℕ). number 256 (take w bs) ∷ l)
-      (blocks-push w m (drop w bs) ∙ ap (λ (l : List ℕ). firstBlocks w m (drop w bs) ++ (number 256 (take w l) ∷ [])) past)
+    (blocks-push w m (drop w bs) ∙ ap (λ (l : List ℕ). firstBlocks w m (drop w bs) ++ (number 256 (take w l) ∷ [])) past)
 
 pub blocks-more : (w m : ℕ) (bs : List ℕ) → firstBlocks w (m + 1) bs ≡ firstBlocks w m bs ++ (blockAt w m bs ∷ [])
 blocks-more w m bs = ap (λ (n : ℕ). firstBlocks w n bs) (add-one m) ∙ blocks-push w m bs
