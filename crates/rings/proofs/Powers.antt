@@ -2,14 +2,15 @@
 use mathlib.Core.Path.{_≡_, refl, sym, ap, ap₂, _∙_}
 use mathlib.Core.List.{List, [], _∷_, _++_}
 use Prim.Native.Nat.{ℕ, zero, suc, _+_, _*_, _%_, _^_, _<_}
-use native.Mathlib.Numerals.{add-one}
+use native.Mathlib.Nat.{add-zero, add-suc}
+use native.Mathlib.Numerals.{add-one, one-add}
 use native.Mathlib.Omega.{arith}
 use lib.Bits.{bitXor, xor-assoc, xor-zero-l, xor-zero-r, xor-lt}
 use lib.ListN.{length, length-append}
 use lib.Pow.{pow-pos}
 use Rattle.rings.specs.Ring.{RingKind, size, times}
 use Rattle.rings.specs.Sums.{power, hashSum, sigma}
-use Rattle.rings.proofs.Total.{one-below, times-below, times-blocks, times-comm, times-assoc, times-over, times-unit}
+use Rattle.rings.proofs.Total.{one-below, times-below, times-blocks, times-comm, times-assoc, times-distrib, times-over, times-unit, zero-times}
 
 module _ (r : RingKind) where
   pub power-below : (τ m : ℕ) → power r τ m < size r
@@ -48,19 +49,75 @@ module _ (r : RingKind) where
       ∙ sym (times-blocks r (bitXor (hashSum r τ bs) b) τ (xor-lt (8 * r .width) _ _ (hashSum-below τ bs) below) small)
       ∙ sym (hashSum-push τ small bs b)
 
-  -- one more power
-  pub power-more : (τ m : ℕ) → τ < size r → power r τ (m + 1) ≡ r .product τ (power r τ m)
+  -- ---- sums of powers by doubling
+
+  -- 1 + τ + .. + τ^(k-1)
+  unfoldable pub firstPowers : ℕ → ℕ → ℕ
+  firstPowers τ zero = 0
+  firstPowers τ (suc k) = bitXor (firstPowers τ k) (power r τ k)
+
+  firstPowers-below : (τ k : ℕ) → firstPowers τ k < size r
+  unfolding firstPowers
+  firstPowers-below τ zero = pow-pos (8 * r .width)
+  firstPowers-below τ (suc k) = xor-lt (8 * r .width) _ _ (firstPowers-below τ k) (power-below τ k)
+
+  -- τ^(a+b) = τ^a·τ^b
+  power-add : (τ a b : ℕ) → power r τ (a + b) ≡ times r (power r τ a) (power r τ b)
   unfolding power
-  power-more τ m small = ap (power r τ) (add-one m) ∙ times-blocks r τ (power r τ m) small (power-below τ m)
+  power-add τ a zero = ap (power r τ) (add-zero a) ∙ sym (times-unit r (power r τ a) (power-below τ a))
+  power-add τ a (suc b) =
+      ap (power r τ) (add-suc a b) ∙ ap (times r τ) (power-add τ a b) ∙ times-comm r τ (times r (power r τ a) (power r τ b))
+      ∙ times-assoc r (power r τ a) (power r τ b) τ ∙ ap (times r (power r τ a)) (times-comm r (power r τ b) τ)
 
-  pub power-none : (τ : ℕ) → power r τ 0 ≡ 1
-  unfolding power
-  power-none τ = refl
+  -- the first a + b powers: the first a, and τ^a times the first b
+  firstPowers-add : (τ a b : ℕ) → firstPowers τ (a + b) ≡ bitXor (firstPowers τ a) (times r (power r τ a) (firstPowers τ b))
+  unfolding firstPowers
+  firstPowers-add τ a zero =
+      ap (firstPowers τ) (add-zero a)
+      ∙ sym (ap (bitXor (firstPowers τ a)) (times-comm r (power r τ a) 0 ∙ zero-times r (power r τ a)) ∙ xor-zero-r (firstPowers τ a))
+  firstPowers-add τ a (suc b) =
+      ap (firstPowers τ) (add-suc a b) ∙ ap₂ bitXor (firstPowers-add τ a b) (power-add τ a b)
+      ∙ xor-assoc (firstPowers τ a) (times r (power r τ a) (firstPowers τ b)) (times r (power r τ a) (power r τ b))
+      ∙ ap (bitXor (firstPowers τ a)) (sym (times-distrib r (power r τ a) (firstPowers τ b) (power r τ b)))
 
-  pub sigma-more : (τ m : ℕ) → sigma r τ (m + 1) ≡ bitXor (sigma r τ m) (power r τ (m + 1))
-  unfolding sigma
-  sigma-more τ m = ap (sigma r τ) (add-one m) ∙ ap (λ (n : ℕ). bitXor (sigma r τ m) (power r τ n)) (sym (add-one m))
+  sigma-first : (τ m : ℕ) → sigma r τ m ≡ firstPowers τ (suc m)
+  unfolding sigma firstPowers power
+  sigma-first τ zero = refl
+  sigma-first τ (suc m) = ap (λ (x : ℕ). bitXor x (power r τ (suc m))) (sigma-first τ m)
 
-  pub sigma-none : (τ : ℕ) → sigma r τ 0 ≡ 1
-  unfolding sigma
-  sigma-none τ = refl
+  -- what the loop keeps after k powers
+  pub record Summed (τ k sum last : ℕ) : Type 0 where
+    pub powers : sum ≡ firstPowers τ k
+    pub next : last ≡ power r τ k
+
+  pub summed-none : (τ sum last : ℕ) → sum ≡ 0 → last ≡ 1 → Summed τ 0 sum last
+  unfolding firstPowers power
+  summed-none τ sum last es el = record { powers = es; next = el }
+
+  pub summed-doubled : (τ k sum last sum′ last′ p : ℕ) → Summed τ k sum last → p ≡ r .product last sum → sum′ ≡ bitXor sum p → last′ ≡ r .product last last
+      → Summed τ (k + k) sum′ last′
+  summed-doubled τ k sum last sum′ last′ p z ep es el =
+      let product-is : p ≡ times r (power r τ k) (firstPowers τ k) =
+      ep ∙ ap₂ (r .product) (z .next) (z .powers) ∙ sym (times-blocks r (power r τ k) (firstPowers τ k) (power-below τ k) (firstPowers-below τ k)) in
+      record {
+        powers = es ∙ ap₂ bitXor (z .powers) product-is ∙ sym (firstPowers-add τ k k);
+        next = el ∙ ap₂ (r .product) (z .next) (z .next) ∙ sym (times-blocks r (power r τ k) (power r τ k) (power-below τ k) (power-below τ k)) ∙ sym (power-add τ k k);
+      }
+
+  pub summed-more : (τ k sum last sum′ last′ : ℕ) → τ < size r → Summed τ k sum last → sum′ ≡ bitXor sum last → last′ ≡ r .product τ last
+      → Summed τ (k + 1) sum′ last′
+  unfolding firstPowers power
+  summed-more τ k sum last sum′ last′ small z es el =
+      record {
+        powers = es ∙ ap₂ bitXor (z .powers) (z .next) ∙ ap (firstPowers τ) (sym (add-one k));
+        next = el ∙ ap (r .product τ) (z .next) ∙ sym (times-blocks r τ (power r τ k) small (power-below τ k)) ∙ ap (power r τ) (sym (add-one k));
+      }
+
+  -- 1 + τ·(1 + τ + .. + τ^(m-1))
+  pub summed-sigma : (τ m sum last one p result : ℕ) → τ < size r → Summed τ m sum last → one ≡ 1 → p ≡ r .product τ sum → result ≡ bitXor one p → result ≡ sigma r τ m
+  unfolding firstPowers power
+  summed-sigma τ m sum last one p result small z eo ep er =
+      let first : times r τ 1 ≡ τ = times-unit r τ small in
+      er ∙ ap₂ bitXor eo (ep ∙ ap (r .product τ) (z .powers) ∙ sym (times-blocks r τ (firstPowers τ m) small (firstPowers-below τ m))
+      ∙ ap (λ (x : ℕ). times r x (firstPowers τ m)) (sym first))
+      ∙ sym (firstPowers-add τ 1 m) ∙ ap (firstPowers τ) (one-add m) ∙ sym (sigma-first τ m)

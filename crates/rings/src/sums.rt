@@ -29,15 +29,19 @@ pub fn hash_sum<R: BlockRing>(tau: R, sector: &[u8]) -> R
     sum
 }
 
-/// σ = 1 + τ + .. + τ^m
+/// σ = 1 + τ + .. + τ^m, in two or three products for each bit of m: from the first k powers and τ^k come the first 2k.
 pub fn power_sum<R: BlockRing>(tau: R, m: usize) -> R
     ensures { λ r. ⌜ value r ≡ sigma ring (value tau) m ⌝ }
 {
+    let mut sum = R::zero();
     let mut power = R::one();
-    let mut sum = power;
-    for i in 0..m {
-        power = tau.multiply(power);
-        sum = sum.add(power);
+    for i in (0..64 - m.leading_zeros()).rev() {
+        sum = sum.add(power.multiply(sum));
+        power = power.multiply(power);
+        if m >> i & 1 == 1 {
+            sum = sum.add(power);
+            power = tau.multiply(power);
+        }
     }
-    sum
+    R::one().add(tau.multiply(sum))
 }

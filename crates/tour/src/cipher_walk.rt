@@ -8,8 +8,8 @@ use ciphers::standard::AesCipher;
 use ciphers::standard::XteaCipher;
 use rings::BlockRing;
 use rings::modular::Ring1;
-use rings::modular::Ring16;
 use rings::modular::Ring8;
+use rings::modular::Ring16;
 use std::io;
 use xtea::Xtea;
 
