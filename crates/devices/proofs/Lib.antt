@@ -1,0 +1,4 @@
+pub mod Answers
+pub mod Sectors
+pub mod Passes
+mod RulesHold

@@ -1,0 +1,4 @@
+pub mod Numbers
+pub mod Faults
+pub mod Device
+pub mod Rules

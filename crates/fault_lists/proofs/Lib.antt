@@ -1,0 +1,4 @@
+pub mod Holds
+pub mod Tables
+pub mod FaultLists
+mod Bounds
