@@ -3,11 +3,13 @@
 use std::io;
 
 mod cipher_walk;
+mod device_walk;
 mod ring_walk;
 
 fn walk(rt: &impl Print) -> io::Result<()> {
     ring_walk::walk(rt)?;
-    cipher_walk::walk(rt)
+    cipher_walk::walk(rt)?;
+    device_walk::walk(rt)
 }
 
 fn main(rt: LibcRuntime) -> io::Result<()> {
