@@ -1,7 +1,7 @@
 -- Blocks as states, the words of the schedule, and the undoing of whole blocks.
-use mathlib.Core.Path.{_≡_, refl, sym, ap, _∙_}
+use mathlib.Core.Path.{_≡_, ap, _∙_}
 use mathlib.Core.Bool.{true, false, cond}
-use mathlib.Core.List.{List, [], _∷_, _++_}
+use mathlib.Core.List.{List, [], _∷_}
 use Prim.Native.Nat.{ℕ, zero, suc, _+_, _-_, _*_, _/_, _%_, _^_, _<_}
 use native.Mathlib.Omega.{arith}
 use native.Mathlib.Nat.{mod-lt, mod-eq-of-lt, div-one}
@@ -15,7 +15,7 @@ use Rattle.std.proofs.shelf.Elements.{all-from-getD, all-push}
 use Rattle.polynomials.proofs.Quotient.{product-lt}
 use Rattle.rings.specs.Rings.{ring1}
 use Rattle.rings.specs.Sums.{power}
-use Rattle.aes.specs.Aes.{word, State, columns, sbox, subWord, rotWord, rcon, temp, next, keyWord, expansion, keyExpansion, cipher, invCipher, stateOf, blockOf, encipher, decipher}
+use Rattle.aes.specs.Aes.{State, columns, sbox, subWord, rotWord, rcon, temp, next, keyWord, expansion, keyExpansion, cipher, invCipher, stateOf, blockOf, encipher, decipher}
 use Rattle.aes.specs.Laws.{Key, Undoing}
 use Rattle.aes.proofs.Boxes.{sbox-lt}
 use Rattle.aes.proofs.Bytes.{word-lt, onBytes-lt}

@@ -1,7 +1,7 @@
 -- The substitution of a byte stays below 256, and its reverse undoes it.
 use mathlib.Core.Path.{_≡_, refl}
 use mathlib.Core.Logic.{_≢_}
-use Prim.Native.Nat.{ℕ, zero, suc, _+_, _*_, _/_, _%_, _^_, _<_}
+use Prim.Native.Nat.{ℕ, zero, suc, _+_, _*_, _%_, _<_}
 use native.Mathlib.Nat.{mod-lt, le-of-suc-le-suc}
 use native.Mathlib.Omega.{arith}
 use lib.Count.{leadingZeros}

@@ -7,7 +7,7 @@ use lib.Bits.{bitOr, bitXor}
 use lib.ListN.{length, getD, take, set}
 use lib.Seq.{getD-take}
 use Rattle.std.proofs.shelf.Lists.{take-more-set}
-use Rattle.aes.specs.Aes.{word, byte, subWord, rotWord, temp, next, expansion}
+use Rattle.aes.specs.Aes.{byte, subWord, rotWord, temp, next, expansion}
 use Rattle.aes.specs.Columns.{substituted}
 use Rattle.aes.proofs.Bytes.{byte-lt, word-bytes, left-bytes}
 

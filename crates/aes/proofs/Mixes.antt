@@ -1,7 +1,7 @@
 -- MixColumns is linear, and InvMixColumns undoes it; and each from its values at columns of one byte, for the tables.
 use mathlib.Core.Path.{_≡_, refl, sym, ap, ap₂, _∙_}
-use Prim.Native.Nat.{ℕ, _+_, _-_, _*_, _/_, _%_, _^_, _<_}
-use lib.Bits.{bitOr, bitXor, xor-lt}
+use Prim.Native.Nat.{ℕ, _^_, _<_}
+use lib.Bits.{bitXor, xor-lt}
 use lib.Dec.{lit<}
 use Rattle.polynomials.specs.Polynomial.{actionIn, action, clmul, xtime, remainder, product}
 use Rattle.polynomials.proofs.Quotient.{product-lt, product-xor}

@@ -1,14 +1,14 @@
 -- The rounds as the code makes them, column by column.
-use mathlib.Core.Path.{_≡_, refl, sym, ap, ap₂, _∙_}
+use mathlib.Core.Path.{_≡_, refl, sym, ap, _∙_}
 use mathlib.Core.List.{List}
-use Prim.Native.Nat.{ℕ, zero, suc, _+_, _-_, _*_, _%_, _^_, _<_, _≤_}
+use Prim.Native.Nat.{ℕ, suc, _+_, _-_, _*_, _<_, _≤_}
 use native.Mathlib.Omega.{arith}
 use native.Mathlib.Nat.{add-zero}
 use lib.Bits.{bitXor}
 use lib.ListN.{getD}
-use Rattle.aes.specs.Aes.{word, byte, State, column, columns, entry, entries, sbox, invSbox, subBytes, invSubBytes, shiftRows, invShiftRows, mixColumn, invMixColumn, mixColumns, invMixColumns, addRoundKey, rounds, cipher, invRounds, invCipher}
+use Rattle.aes.specs.Aes.{byte, State, column, columns, entry, entries, sbox, invSbox, subBytes, invSubBytes, shiftRows, invShiftRows, mixColumn, invMixColumn, mixColumns, invMixColumns, addRoundKey, rounds, invRounds}
 use Rattle.aes.specs.Columns.{substituted, invSubstituted, Unmixed}
-use Rattle.aes.proofs.Boxes.{sbox-lt, invSbox-lt}
+use Rattle.aes.proofs.Boxes.{sbox-lt}
 use Rattle.aes.proofs.Bytes.{byte-0, byte-1, byte-2, byte-3, word-cong, onBytes}
 use Rattle.aes.proofs.Mixes.{invMix-linear}
 use Rattle.aes.proofs.States.{same-state, gathered, gathered-0, gathered-1, gathered-2, gathered-3}

@@ -1,7 +1,7 @@
 -- The steps on whole states, the rounds and the ciphers undo each other.
-use mathlib.Core.Path.{_≡_, refl, sym, ap, _∙_}
+use mathlib.Core.Path.{_≡_, ap, _∙_}
 use mathlib.Core.List.{List}
-use Prim.Native.Nat.{ℕ, zero, suc, _+_, _-_, _*_, _%_, _^_, _<_}
+use Prim.Native.Nat.{ℕ, zero, suc, _+_, _*_, _^_, _<_}
 use lib.Bits.{bitXor, xor-lt}
 use lib.ListN.{getD}
 use Rattle.polynomials.proofs.Xor.{cancel}

@@ -55,11 +55,12 @@ blockOf s = s .c0 * 2 ^ 96 + s .c1 * 2 ^ 64 + s .c2 * 2 ^ 32 + s .c3
 
 -- 5.1.1 SubBytes
 
--- the inverse of a byte, with 00 kept
+-- 00 where there is none
 abbrev pub orZero : Option ℕ → ℕ
 orZero None = 0
 orZero (Some b) = b
 
+-- the inverse of a byte, with 00 kept
 unfoldable pub inverted : ℕ → ℕ
 inverted a = orZero (ring1 .inverse a)
 
@@ -92,7 +93,7 @@ unfoldable pub row : ℕ → ℕ → ℕ → ℕ → ℕ → ℕ
 row p q r s w =
     bitXor (bitXor (ring1 .product p (byte 0 w)) (ring1 .product q (byte 1 w))) (bitXor (ring1 .product r (byte 2 w)) (ring1 .product s (byte 3 w)))
 
--- the word a times a column
+-- the matrix of the word a0 a1 a2 a3, times a column
 unfoldable pub matrix : ℕ → ℕ → ℕ → ℕ → ℕ → ℕ
 matrix a0 a1 a2 a3 w = word (row a0 a3 a2 a1 w) (row a1 a0 a3 a2 w) (row a2 a1 a0 a3 w) (row a3 a2 a1 a0 w)
 
@@ -108,7 +109,7 @@ addRoundKey w round s = columns (λ c. bitXor (column s c) (getD w (4 * round + 
 
 -- 5.1 Cipher
 
--- the state after the first rounds
+-- the state after the first AddRoundKey and so many rounds
 unfoldable pub rounds : List ℕ → ℕ → State → State
 rounds w zero s = addRoundKey w 0 s
 rounds w (suc round) s = addRoundKey w (suc round) (mixColumns (shiftRows (subBytes (rounds w round s))))

@@ -1,9 +1,9 @@
 -- The forms in which the code works: a round by tables, and the state as a struct.
 use mathlib.Core.Path.{_≡_}
 use mathlib.Core.List.{List}
-use Prim.Native.Nat.{ℕ, _+_, _-_, _*_, _/_, _%_, _^_, _<_}
+use Prim.Native.Nat.{ℕ, _-_, _*_, _/_, _%_, _^_, _<_}
 use lib.Bits.{bitOr, bitXor}
-use lib.ListN.{length, getD}
+use lib.ListN.{getD}
 use Rattle.aes.specs.Aes.{word, byte, State, sbox, invSbox, mixColumn, invMixColumn}
 use Rattle.aes.specs.declared.columns.Columns.{Columns}
 
