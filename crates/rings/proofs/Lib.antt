@@ -1,3 +1,4 @@
+pub mod Blending
 pub mod Bytes
 pub mod Powers
 pub mod Rows

@@ -49,6 +49,15 @@ module _ (r : RingKind) where
       ∙ sym (times-blocks r (bitXor (hashSum r τ bs) b) τ (xor-lt (8 * r .width) _ _ (hashSum-below τ bs) below) small)
       ∙ sym (hashSum-push τ small bs b)
 
+  pub power-none : (τ : ℕ) → power r τ 0 ≡ 1
+  unfolding power
+  power-none τ = refl
+
+  -- one more power
+  pub power-more : (τ m : ℕ) → τ < size r → power r τ (m + 1) ≡ r .product τ (power r τ m)
+  unfolding power
+  power-more τ m small = ap (power r τ) (add-one m) ∙ times-blocks r τ (power r τ m) small (power-below τ m)
+
   -- ---- sums of powers by doubling
 
   -- 1 + τ + .. + τ^(k-1)
@@ -110,7 +119,7 @@ module _ (r : RingKind) where
   summed-more τ k sum last sum′ last′ small z es el =
       record {
         powers = es ∙ ap₂ bitXor (z .powers) (z .next) ∙ ap (firstPowers τ) (sym (add-one k));
-        next = el ∙ ap (r .product τ) (z .next) ∙ sym (times-blocks r τ (power r τ k) small (power-below τ k)) ∙ ap (power r τ) (sym (add-one k));
+        next = el ∙ ap (r .product τ) (z .next) ∙ sym (power-more τ k small);
       }
 
   -- 1 + τ·(1 + τ + .. + τ^(m-1))

@@ -1,0 +1,3 @@
+pub mod Inverse
+pub mod Refusals
+pub mod Undoing

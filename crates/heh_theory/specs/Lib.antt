@@ -1,0 +1,3 @@
+pub mod Heh
+pub mod Laws
+pub mod State

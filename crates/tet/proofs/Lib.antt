@@ -1,0 +1,3 @@
+mod Chains
+mod Ends
+mod Hashes

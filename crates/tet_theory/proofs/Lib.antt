@@ -1,0 +1,4 @@
+pub mod Blends
+pub mod Lasts
+pub mod States
+pub mod Undoing
