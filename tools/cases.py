@@ -1,5 +1,5 @@
 #!/usr/bin/env python3
-"""Writes the table of cases for the block rings and the block ciphers, with answers worked out independently:
+"""Writes the table of cases for the block rings, the block ciphers and the wide modes, with answers worked out independently:
 
     python3 tools/cases.py
 
@@ -153,6 +153,145 @@ CIPHERS = {
     "mask-16": (masked, 16, 16),
 }
 
+class Refused(Exception):
+    pass
+
+
+def number(data):
+    return int.from_bytes(data, "big")
+
+
+class Keyed:
+    """A cipher under a key, as maps on blocks that are numbers."""
+
+    def __init__(self, name, key):
+        self.maps, self.key_length, self.w = CIPHERS[name]
+        self.longest = 31 if self.w == 1 else 4096
+        self.key = key
+
+    def encipher(self, block):
+        return number(self.maps(self.key, block.to_bytes(self.w, "big"), False))
+
+    def decipher(self, block):
+        return number(self.maps(self.key, block.to_bytes(self.w, "big"), True))
+
+
+def blocks_of(data, w):
+    m = len(data) // w
+    return [number(data[i * w:(i + 1) * w]) for i in range(m)], data[m * w:]
+
+
+def bytes_of(blocks, w):
+    return b"".join(b.to_bytes(w, "big") for b in blocks)
+
+
+def pad(data, w):
+    return number(data + b"\x80" + bytes(w - 1 - len(data)))
+
+
+def block_sum(w, tau, blocks):
+    m = len(blocks)
+    total = 0
+    for b in blocks:
+        total = multiply(w, total ^ b, tau)
+    return total
+
+
+def tet(name, back, size, key, tweak, sector):
+    key_length, w = CIPHERS[name][1:]
+    if len(key) != 2 * key_length:
+        raise Refused(5)
+    one, two = Keyed(name, key[:key_length]), Keyed(name, key[key_length:])
+    if size < w or size > one.longest:
+        raise Refused(6)
+    m = size // w
+    tau = one.encipher(multiply(w, 2, one.encipher(0)))
+    sigma = power_sum(w, tau, m)
+    inverse_sigma = inverse(w, sigma)
+    if inverse_sigma is None:
+        raise Refused(7)
+    if len(sector) != size:
+        raise Refused(2)
+    if len(tweak) > 4096:
+        raise Refused(12)
+    x = one.encipher(8 * size)
+    parts = [tweak[i:i + w] for i in range(0, len(tweak), w)] or [b""]
+    v = 0
+    for part in parts[:-1]:
+        v = one.encipher(v ^ number(part))
+    if len(parts[-1]) == w:
+        beta = one.encipher(multiply(w, 2, x) ^ v ^ number(parts[-1]))
+    else:
+        beta = one.encipher(multiply(w, 2, multiply(w, 2, x)) ^ v ^ pad(parts[-1], w))
+    offsets = [beta]
+    for _ in range(m - 1):
+        offsets.append(multiply(w, 2, offsets[-1]))
+    maps = two.decipher if back else two.encipher
+    padded = lambda tail: pad(tail, w) if tail else 0
+
+    def blended(blocks, tail):
+        h = block_sum(w, tau, blocks)
+        s = h ^ multiply(w, sigma, padded(tail)) if back else multiply(w, h, inverse_sigma) ^ padded(tail)
+        return [b ^ s for b in blocks]
+
+    blocks, tail = blocks_of(sector, w)
+    blocks = [b ^ o for b, o in zip(blended(blocks, tail), offsets)]
+    blocks = [maps(b) for b in blocks]
+    if tail:
+        u = blocks[-1]
+        blocks[-1] = maps(u)
+        tail = bytes(a ^ b for a, b in zip(tail, u.to_bytes(w, "big")))
+    blocks = [b ^ o for b, o in zip(blocks, offsets)]
+    return bytes_of(blended(blocks, tail), w) + tail
+
+
+def heh(name, back, size, key, tweak, sector):
+    key_length, w = CIPHERS[name][1:]
+    if len(key) != key_length:
+        raise Refused(5)
+    cipher = Keyed(name, key)
+    if size % w or size < w or size > cipher.longest:
+        raise Refused(6)
+    if len(sector) != size:
+        raise Refused(2)
+    if len(tweak) != w:
+        raise Refused(12)
+    tau = cipher.encipher(number(tweak))
+    beta1 = cipher.encipher(tau ^ 8 * size)
+    beta2 = multiply(w, 2, beta1)
+
+    def offsets(beta, count):
+        out = []
+        for _ in range(count):
+            beta = multiply(w, 2, beta)
+            out.append(beta)
+        return out
+
+    def psi(blocks, beta):
+        y = blocks[-1] ^ block_sum(w, tau, blocks[:-1])
+        return [b ^ y ^ o for b, o in zip(blocks[:-1], offsets(beta, len(blocks) - 1))] + [y ^ beta]
+
+    def psi_back(blocks, beta):
+        y = blocks[-1] ^ beta
+        front = [b ^ y ^ o for b, o in zip(blocks[:-1], offsets(beta, len(blocks) - 1))]
+        return front + [y ^ block_sum(w, tau, front)]
+
+    blocks, _ = blocks_of(sector, w)
+    if back:
+        return bytes_of(psi_back([cipher.decipher(b) for b in psi(blocks, beta2)], beta1), w)
+    return bytes_of(psi_back([cipher.encipher(b) for b in psi(blocks, beta1)], beta2), w)
+
+
+MODES = {"tet": tet, "heh": heh}
+
+# worked by hand: mode, cipher, size, key, tweak, plain, enciphered
+WORKED = [
+    ("tet", "mask-1", 1, "0110", "", "57", "5b"),
+    ("tet", "mask-1", 2, "f610", "00", "0102", "1112"),
+    ("tet", "mask-8", 9, "0000000000000001" + "00" * 8, "00" * 8, "000000000000000200", "80c000000000000d00"),
+    ("heh", "mask-1", 2, "01", "05", "0102", "4023"),
+]
+
 COUNTING = bytes(range(16)).hex()
 
 # FIPS 197, appendices B and C.1, and the vectors that are published for XTEA
@@ -217,7 +356,48 @@ def cipher_cases(rng):
                     yield f"cipher {name} {direction} {written(bytes(length))} {block.hex()}", "refused 5"
 
 
+def mode_line(mode, name, back, size, key, tweak, sector):
+    direction = "decipher" if back else "encipher"
+    try:
+        answer = MODES[mode](name, back, size, key, tweak, sector).hex()
+    except Refused as refused:
+        answer = f"refused {refused.args[0]}"
+    return f"mode {mode} {name} {direction} {size} {written(key)} {written(tweak)} {written(sector)}", answer
+
+
+def mode_cases(rng):
+    some = lambda count: bytes(rng.getrandbits(8) for _ in range(count))
+    for mode, name, size, key, tweak, plain, enciphered in WORKED:
+        key, tweak = bytes.fromhex(key), bytes.fromhex(tweak)
+        yield mode_line(mode, name, False, size, key, tweak, bytes.fromhex(plain))
+        yield mode_line(mode, name, True, size, key, tweak, bytes.fromhex(enciphered))
+    for mode in MODES:
+        for name, (_, key_length, w) in CIPHERS.items():
+            longest = 31 if w == 1 else 4096
+            keys = 2 * key_length if mode == "tet" else key_length
+            plain_tweak = some(8) if mode == "tet" else some(w)
+            slow = name == "aes-128"
+            sizes = {0, w - 1, w, w + 1, 2 * w - 1, 2 * w, 3 * w + w // 2, longest + 1}
+            sizes |= {512, 520} if w > 1 else {31, 30}
+            sizes |= {longest} if not slow or mode == "tet" else set()
+            sizes |= {longest - 1} if name in ("xtea", "mask-1") else set()
+            for size in sorted(sizes):
+                for back in (False, True):
+                    if size <= 520 or back == (name == "xtea"):
+                        yield mode_line(mode, name, back, size, some(keys), plain_tweak, some(size) if size <= longest else b"")
+            for length in (0, 1, w - 1, w, w + 1, 4096, 4097):
+                yield mode_line(mode, name, length % 2 == 0, 2 * w, some(keys), some(length), some(2 * w))
+            for key in (b"", some(keys - 1), some(keys + 1), some(2 * keys)):
+                yield mode_line(mode, name, False, longest + 1, key, plain_tweak, some(w))
+            for length in (0, w, 2 * w - 1, 2 * w + 1, 3 * w):
+                yield mode_line(mode, name, False, 2 * w, some(keys), some(w + 1 if mode == "heh" else 4097 if length == 0 else 8), some(length))
+    yield mode_line("tet", "mask-1", False, 1, bytes.fromhex("f610"), b"", b"\x00")
+
+
 def check():
+    for mode, name, size, key, tweak, plain, enciphered in WORKED:
+        assert MODES[mode](name, False, size, bytes.fromhex(key), bytes.fromhex(tweak), bytes.fromhex(plain)).hex() == enciphered
+        assert MODES[mode](name, True, size, bytes.fromhex(key), bytes.fromhex(tweak), bytes.fromhex(enciphered)).hex() == plain
     for name, key, plain, enciphered in PUBLISHED:
         maps = CIPHERS[name][0]
         assert maps(bytes.fromhex(key), bytes.fromhex(plain), False).hex() == enciphered
@@ -228,7 +408,7 @@ def main():
     check()
     folder = os.path.join(os.path.dirname(os.path.abspath(__file__)), "..", "crates", "cases")
     rng = random.Random(1)
-    rows = list(ring_cases(rng)) + list(cipher_cases(rng))
+    rows = list(ring_cases(rng)) + list(cipher_cases(rng)) + list(mode_cases(rng))
     for name, column in (("stdin", 0), ("stdout", 1)):
         with open(os.path.join(folder, name), "w") as file:
             file.writelines(row[column] + "\n" for row in rows)

@@ -1,16 +1,19 @@
-//! Runs a table of cases on the block rings and the block ciphers: a line each on standard input, an answer each on
-//! standard output. Blocks, keys and bytes are in hexadecimal, `-` for no bytes.
+//! Runs a table of cases on the block rings, the block ciphers and the wide modes: a line each on standard input, an
+//! answer each on standard output. Blocks, keys and bytes are in hexadecimal, `-` for no bytes.
 //!
 //! `ring WIDTH OPERATION A B`, OPERATION one of `add`, `multiply`, `inverse` (of A), `bytes` (the block of the bytes A, written to
 //! B bytes), `hash` (the hash sum of the sector B under the hash value A) and `powers` (1 + A + .. + A^B).
 //! `cipher NAME DIRECTION KEY BLOCK`, NAME one of `aes-128`, `xtea`, `mask-1`, `mask-8` and `mask-16`, DIRECTION one of
 //! `encipher` and `decipher`; the key `new` leaves the cipher as it was made.
+//! `mode NAME CIPHER DIRECTION SIZE KEY TWEAK SECTOR`, NAME one of `tet` and `heh`: the mode is keyed for sectors of SIZE bytes and
+//! given the sector.
 
 use std::alloc::Global;
 use std::error::AnyError;
 
 mod cipher_cases;
 mod hexadecimal;
+mod mode_cases;
 mod ring_cases;
 
 fn answer(heap: Global, line: &str) -> Result<String, AnyError> {
@@ -23,6 +26,18 @@ fn answer(heap: Global, line: &str) -> Result<String, AnyError> {
     match layer {
         "ring" => ring_cases::answer(heap, name, operation, a, b),
         "cipher" => cipher_cases::answer(heap, name, operation, a, b),
+        "mode" => {
+            let case = mode_cases::Case {
+                mode: name,
+                cipher: operation,
+                direction: a,
+                size: b,
+                key: words.next().unwrap_or("-"),
+                tweak: words.next().unwrap_or("-"),
+                sector: words.next().unwrap_or("-"),
+            };
+            mode_cases::answer(heap, &case)
+        }
         _ => Err("no such layer".into()),
     }
 }

@@ -19,6 +19,7 @@ use tet::Tet;
 use xtea::Xtea;
 
 /// One case: the words of its line.
+#[derive(Drop)]
 pub struct Case<'a> {
     pub mode: &'a str,
     pub cipher: &'a str,

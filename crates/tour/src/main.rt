@@ -4,11 +4,13 @@ use std::io;
 
 mod cipher_walk;
 mod device_walk;
+mod mode_walk;
 mod ring_walk;
 
 fn walk(rt: &impl Print) -> io::Result<()> {
     ring_walk::walk(rt)?;
     cipher_walk::walk(rt)?;
+    mode_walk::walk(rt)?;
     device_walk::walk(rt)
 }
 
