@@ -9,7 +9,7 @@ use rings::sums::power_sum;
 
 /// τ, σ and 1/σ.
 #[derive(Clone, Copy)]
-pub struct Hash<R> {
+pub(crate) struct Hash<R> {
     pub tau: R,
     pub sigma: R,
     pub inverse: R,
@@ -17,7 +17,7 @@ pub struct Hash<R> {
 
 /// τ = E(α·E(0)), σ = 1 + τ + .. + τ^m and 1/σ for sectors of `size` bytes. `None` where the size is not taken, or σ has
 /// no inverse.
-pub fn hash_key<C: BlockCipher>(cipher: &C, size: usize) -> Option<Hash<C::Ring>>
+pub(crate) fn hash_key<C: BlockCipher>(cipher: &C, size: usize) -> Option<Hash<C::Ring>>
     ensures hash_key { λ r. ⌜ keysOf (Ring·BlockRing .value) r ≡ hashKey (Ring·BlockRing .ring) (C·BlockCipher .kind .encipher (C·BlockCipher .held (now (cipher .entry)))) size ⌝ }
 {
     let w = C::Ring::width();

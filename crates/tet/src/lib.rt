@@ -2,7 +2,7 @@
 //!
 //! A sector is hashed into each of its blocks, whitened, enciphered block by block, whitened and hashed again, so that
 //! each byte depends on all others and on the tweak. `hash` makes the hash key of a sector size, `tweaks` the offset β of
-//! a tweak, and `stages` what is done to a buffer; `specs/Tet.antt` has the equations.
+//! a tweak, and `stages` what is done to a buffer; the equations are `specs/Tet.antt` of `tet_theory`.
 
 ghost use mathlib.Core.Path.{_≡_, refl};
 ghost use Prim.Native.Nat.{ℕ};
@@ -10,13 +10,13 @@ ghost use Rattle.std.specs.declared.option.Option.the-variants.{None};
 ghost use Rattle.modes.specs.Faults.{answered};
 ghost use Rattle.modes.specs.Mode.{keyedAfter, ciphered};
 ghost use Rattle.tet_theory.specs.State.{refusal, obstacle};
-ghost use Rattle.tet.specs.State.{tetState};
 ghost use Rattle.tet_theory.specs.Tet.{encipher, decipher};
+ghost use Rattle.tet_theory.proofs.States.{held-fits};
+ghost use Rattle.tet.specs.Kind.{kindOver};
+ghost use Rattle.tet.specs.State.{tetState};
 use crate::hash::hash_key;
 use crate::stages::*;
 use crate::tweaks::tweak_block;
-ghost use Rattle.tet_theory.proofs.States.{held-fits};
-ghost use Rattle.tet.specs.Kind.{kindOver};
 use ciphers::BlockCipher;
 use modes::ModeFault;
 use modes::ModeFaultFromKey;

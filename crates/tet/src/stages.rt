@@ -68,7 +68,7 @@ fn decipher_blocks<C: BlockCipher>(cipher: &C, sector: &mut [u8])
 }
 
 /// From P to C.
-pub fn encipher_sector<C: BlockCipher>(
+pub(crate) fn encipher_sector<C: BlockCipher>(
     cipher: &C,
     hash: Hash<C::Ring>,
     beta: C::Ring,
@@ -85,7 +85,7 @@ pub fn encipher_sector<C: BlockCipher>(
 }
 
 /// From C to P.
-pub fn decipher_sector<C: BlockCipher>(
+pub(crate) fn decipher_sector<C: BlockCipher>(
     cipher: &C,
     hash: Hash<C::Ring>,
     beta: C::Ring,

@@ -42,7 +42,7 @@ fn last_step<C: BlockCipher>(cipher: &C, x: C::Ring, v: C::Ring, end: &[u8]) -> 
 }
 
 /// β for a sector size and a tweak, from X = E(L), where L = 8·size.
-pub fn tweak_block<C: BlockCipher>(cipher: &C, size: usize, tweak: &[u8]) -> C::Ring
+pub(crate) fn tweak_block<C: BlockCipher>(cipher: &C, size: usize, tweak: &[u8]) -> C::Ring
     requires { ⌜ size ≤ Ring·BlockRing .ring .longest ⌝ }
     ensures { λ r. ⌜ Ring·BlockRing .value r ≡ betaOf (Ring·BlockRing .ring) (C·BlockCipher .kind .encipher (C·BlockCipher .held (now (cipher .entry)))) size (now (tweak .entry)) ⌝ }
 {
