@@ -7,6 +7,54 @@ use std::test::*;
 /// The key of the appendices A.1 and B.
 const KEY: [u8; 16] = *b"\x2b\x7e\x15\x16\x28\xae\xd2\xa6\xab\xf7\x15\x88\x09\xcf\x4f\x3c";
 
+/// The words of its key expansion, in appendix A.1.
+const SCHEDULE: [u32; 44] = [
+    0x2b7e1516,
+    0x28aed2a6,
+    0xabf71588,
+    0x09cf4f3c,
+    0xa0fafe17,
+    0x88542cb1,
+    0x23a33939,
+    0x2a6c7605,
+    0xf2c295f2,
+    0x7a96b943,
+    0x5935807a,
+    0x7359f67f,
+    0x3d80477d,
+    0x4716fe3e,
+    0x1e237e44,
+    0x6d7a883b,
+    0xef44a541,
+    0xa8525b7f,
+    0xb671253b,
+    0xdb0bad00,
+    0xd4d1c6f8,
+    0x7c839d87,
+    0xcaf2b8bc,
+    0x11f915bc,
+    0x6d88a37a,
+    0x110b3efd,
+    0xdbf98641,
+    0xca0093fd,
+    0x4e54f70e,
+    0x5f5fc9f3,
+    0x84a64fb2,
+    0x4ea6dc4f,
+    0xead27321,
+    0xb58dbad2,
+    0x312bf560,
+    0x7f8d292f,
+    0xac7766f3,
+    0x19fadc21,
+    0x28d12941,
+    0x575c006e,
+    0xd014f9a8,
+    0xc9ee2589,
+    0xe13f0cc8,
+    0xb6630ca6,
+];
+
 fn both_ways(key: &[u8; 16], block: u128, enciphered: u128) -> Result<(), Fail> {
     let mut aes = Aes128::new();
     aes.set_key(key);
@@ -17,18 +65,10 @@ fn both_ways(key: &[u8; 16], block: u128, enciphered: u128) -> Result<(), Fail> 
 #[test]
 fn appendix_a1_key_expansion() -> Result<(), Fail> {
     let w = schedule::expand(&KEY);
-    check_eq(
-        [w[4], w[5], w[6], w[7]],
-        [0xa0fafe17, 0x88542cb1, 0x23a33939, 0x2a6c7605],
-    )?;
-    check_eq(
-        [w[20], w[21], w[22], w[23]],
-        [0xd4d1c6f8, 0x7c839d87, 0xcaf2b8bc, 0x11f915bc],
-    )?;
-    check_eq(
-        [w[40], w[41], w[42], w[43]],
-        [0xd014f9a8, 0xc9ee2589, 0xe13f0cc8, 0xb6630ca6],
-    )
+    for i in 0..44usize {
+        check_eq(w[i], SCHEDULE[i])?;
+    }
+    Ok(())
 }
 
 #[test]
