@@ -9,12 +9,10 @@ use lib.Dec.{eqb}
 use lib.ListN.{length}
 use Rattle.std.specs.declared.option.Option.{Option}
 use Rattle.std.specs.declared.option.Option.the-variants.{None, Some}
-use Rattle.std.specs.declared.result.Result.{Result}
 use Rattle.std.specs.declared.result.Result.the-variants.{Ok, Err}
 use Rattle.std.proofs.shelf.Tests.{cases-bool, cases-eq, eq-eqb, ne-eqb, cond-true, cond-false, cond-both}
 use Rattle.rings.specs.Ring.{RingKind}
 use Rattle.ciphers.specs.Cipher.{CipherKind, fits}
-use Rattle.ciphers.specs.declared.KeyFault.{KeyFault}
 use Rattle.ciphers.specs.declared.KeyFault.the-variants.{WrongLength as WrongKeyLength}
 use Rattle.modes.specs.Faults.{answered}
 use Rattle.modes.specs.Mode.{Keyed, obstacle, ciphered, ModeKind, Fitting}
@@ -24,10 +22,6 @@ use Rattle.heh_theory.specs.Heh.{sizeFits}
 use Rattle.heh_theory.specs.State.{keyedWith, refusal, orTweak}
 
 -- ---- keys
-
-pub key-taken : (b : Bool) → _≡_ {A = Result (Unit {0}) KeyFault} (Ok tt) (cond b (Ok tt) (Err WrongKeyLength)) → b ≡ true
-key-taken true e = refl
-key-taken false e = let z : _≡_ {A = ℕ} 0 1 = cc in absurd (omega arith)
 
 module _ (k : CipherKind) (key : List ℕ) (ℓ : ℕ) (good : fits k key ≡ true) where
   pub size-refused : sizeFits (k .ring) ℓ ≡ false → refusal k key ℓ ≡ Some WrongSize

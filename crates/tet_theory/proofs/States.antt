@@ -8,14 +8,12 @@ use lib.Dec.{eqb, leb}
 use lib.ListN.{length, take, drop, length-append}
 use Rattle.std.specs.declared.option.Option.{Option}
 use Rattle.std.specs.declared.option.Option.the-variants.{None, Some}
-use Rattle.std.specs.declared.result.Result.{Result}
 use Rattle.std.specs.declared.result.Result.the-variants.{Ok, Err}
 use Rattle.std.proofs.shelf.Lists.{take-at, drop-at, take-append-drop}
 use Rattle.std.proofs.shelf.Tests.{and-parts, and-from, and-left, and-right, leb-true, le-leb, lt-leb, eq-eqb, ne-eqb, cond-true, cond-false}
 use Rattle.rings.specs.Ring.{RingKind}
 use Rattle.rings.proofs.Rows.{row-parts}
 use Rattle.ciphers.specs.Cipher.{CipherKind, fits}
-use Rattle.ciphers.specs.declared.KeyFault.{KeyFault}
 use Rattle.ciphers.specs.declared.KeyFault.the-variants.{WrongLength as WrongKeyLength}
 use Rattle.modes.specs.Faults.{answered}
 use Rattle.modes.specs.Mode.{ModeKind, Keyed, Fitting, keyedAfter, ciphered, obstacle as obstacleWithout}
@@ -111,14 +109,6 @@ module _ (k : CipherKind) (K1 K2 : List ℕ) (good1 : fits k K1 ≡ true) (good2
             ∙ (λ t. onRows k (λ h. deciphered (k .ring) (k .decipher (second-is t)) h (beta (k .ring) (k .encipher (first-is t)) n tweak)) (hash t) bs))
 
 -- ---- keys
-
-pub taken : (b : Bool) → _≡_ {A = Result (Unit {0}) KeyFault} (Ok tt) (cond b (Ok tt) (Err WrongKeyLength)) → b ≡ true
-taken true e = refl
-taken false e = let z : _≡_ {A = ℕ} 0 1 = cc in absurd (omega arith)
-
-pub turned : (b : Bool) (x : KeyFault) → _≡_ {A = Result (Unit {0}) KeyFault} (Err x) (cond b (Ok tt) (Err WrongKeyLength)) → b ≡ false
-turned true x e = let z : _≡_ {A = ℕ} 0 1 = cc in absurd (omega arith)
-turned false x e = refl
 
 pub too-small : (r : RingKind) (n : ℕ) → n < r .width → sizeFits r n ≡ false
 too-small r n h = and-left (leb (r .width) n) (leb n (r .longest)) (lt-leb (r .width) n h)

@@ -13,7 +13,8 @@ use Rattle.modes.specs.declared.ModeFault.{ModeFault}
 use Rattle.heh_theory.specs.Heh.{sizeFits}
 use Rattle.heh_theory.specs.State.{keyedWith}
 use Rattle.heh.specs.State.{stateOf}
-use Rattle.heh_theory.proofs.Refusals.{key-taken, size-refused, not-refused, held}
+use Rattle.ciphers.proofs.Keys.{taken}
+use Rattle.heh_theory.proofs.Refusals.{size-refused, not-refused, held}
 use Rattle.heh.proofs.Heh.key.Needs as need
 
 pub returns-then-not-takes : need.returns-then-not-takes
@@ -21,7 +22,7 @@ returns-then-not-takes g c =
     let k = g .C·BlockCipher .kind in
     let key = c .args .key .now in
     let ℓ = c .args .size in
-    let good = key-taken (fits k key) (c .in-Continue-set-key .ensures tt .answer) in
+    let good = taken (fits k key) (c .in-Continue-set-key .ensures tt .answer) in
     let bad : sizeFits (k .ring) ℓ ≡ false = ap (λ (r : RingKind). sizeFits r ℓ) (g .C·BlockCipher·met .over) ∙ sym (c .takes .ensures) ∙ c .if-not-takes .taken in
     let why = size-refused k key ℓ good bad in
     record {
@@ -34,7 +35,7 @@ returns g c =
     let k = g .C·BlockCipher .kind in
     let key = c .args .key .now in
     let ℓ = c .args .size in
-    let good = key-taken (fits k key) (c .in-Continue-set-key .ensures tt .answer) in
+    let good = taken (fits k key) (c .in-Continue-set-key .ensures tt .answer) in
     let fit : sizeFits (k .ring) ℓ ≡ true = ap (λ (r : RingKind). sizeFits r ℓ) (g .C·BlockCipher·met .over) ∙ sym (c .takes .ensures) ∙ c .if-not-takes .left in
     let free = not-refused k key ℓ good fit in
     let key-is = c .in-Continue-set-key .ensures tt .key-is-held ∙ cond-true (fits k key) key _ good in

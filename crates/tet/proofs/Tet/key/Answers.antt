@@ -19,7 +19,8 @@ use Rattle.tet_theory.specs.State.{refusal}
 use Rattle.tet.specs.State.{tetState}
 use Rattle.tet_theory.specs.Tet.{firstKey, secondKey, sizeFits, hashKey}
 use Rattle.tet.proofs.Hashes.{size-fits}
-use Rattle.tet_theory.proofs.States.{taken, turned, too-small, too-large, second-refused, size-refused, hash-refused, not-refused, now-held}
+use Rattle.ciphers.proofs.Keys.{taken, turned}
+use Rattle.tet_theory.proofs.States.{too-small, too-large, second-refused, size-refused, hash-refused, not-refused, now-held}
 use Rattle.tet.proofs.Tet.key.Needs as need
 use Rattle.tet.proofs.Tet.key.Needs.{then-size-width·by·then-size-width, then-size-width·by·else-size-width·then-longest-size}
 
