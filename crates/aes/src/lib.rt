@@ -3,6 +3,8 @@
 //! `specs/Aes.antt` is the standard, step by step. The code holds the state as four columns (`columns`) and makes a
 //! round by one table for each direction (`tables`, `steps`), with a second schedule for the way back (`schedule`).
 
+#![tactic(auto)]
+
 ghost use Rattle.std.specs.Prelude.{◌≡◌, ℕ, ◌<◌, length, replicate, slice_index};
 ghost use Rattle.aes.specs.Aes.{key_expansion, encipher, decipher};
 ghost use Rattle.aes.specs.Columns.{Unmixed};

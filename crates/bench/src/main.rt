@@ -3,6 +3,8 @@
 //! Without an argument it measures with the runtime's clock, and prints a line for each figure: the mode, the size of a sector, what was
 //! done, the best figure of several runs and its unit. With an argument, as `once`, it does each thing once and prints that.
 
+#![tactic(auto)]
+
 mod plan;
 mod subject;
 

@@ -8,6 +8,8 @@
 //! `mode NAME CIPHER DIRECTION SIZE KEY TWEAK SECTOR`, NAME one of `tet` and `heh`: the mode is keyed for sectors of SIZE bytes and
 //! given the sector.
 
+#![tactic(auto)]
+
 use anyhow::anyhow;
 use std::alloc::Global;
 

@@ -3,6 +3,8 @@
 //! A cipher holds a key, at first all zero. All ciphers of one Rust type are of one kind (`CipherKind`): a block ring, a key
 //! length and, for each key, two maps on blocks that undo each other.
 
+#![tactic(auto)]
+
 ghost use Rattle.std.specs.Prelude.{◌≡◌, ℕ, true, List, replicate};
 ghost use Rattle.ciphers.specs.Answers.{key_answer, key_fault_number};
 ghost use Rattle.ciphers.specs.Cipher.{CipherKind, fits, key_after};

@@ -3,6 +3,8 @@
 //! `command` has what a line may ask for and `parse` reads it; `answer` has what is answered and its text. `names` are the
 //! fixed words of the language. Nothing here knows what a volume is.
 
+#![tactic(auto)]
+
 pub mod answer;
 pub mod command;
 pub mod names;

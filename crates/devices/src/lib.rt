@@ -5,6 +5,8 @@
 //! `call` the two checks that each device makes first, and how a layer passes an answer up; `rules`
 //! the theorem that what calls are defined to do is what a device promises.
 
+#![tactic(auto)]
+
 pub mod call;
 pub mod device;
 pub mod fault;

@@ -3,6 +3,8 @@
 //! A sector of m blocks goes through Ψ, the cipher block by block, and the inverse of Ψ. Ψ adds to each block one sum of
 //! them all, and offsets from the tweak and the length. `psi` has Ψ and its inverse on a buffer, `sectors` both directions.
 
+#![tactic(auto)]
+
 ghost use Rattle.std.specs.Prelude.{◌≡◌, None, refl};
 ghost use Rattle.modes.specs.Faults.{answered};
 ghost use Rattle.modes.specs.Mode.{keyed_after, obstacle, ciphered};

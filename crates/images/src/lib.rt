@@ -1,3 +1,5 @@
+#![tactic(auto)]
+
 ghost use Rattle.std.specs.Prelude.{◌≡◌, ◌+◌, ◌≤◌, length, take, drop};
 ghost use borrow.Rule.Slice.PartMut.{put_mid};
 ghost use Rattle.devices.specs.Device.{answer, after_read, after_write};

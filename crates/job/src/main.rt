@@ -1,5 +1,7 @@
 //! Works one job record from standard input and writes its answer to standard output.
 
+#![tactic(auto)]
+
 ghost use Rattle.std.specs.Prelude.{◌≤◌, length, IfOk};
 
 use anyhow::anyhow;

@@ -4,6 +4,8 @@
 //! sector and writes the answer. `answers` writes an answer, and `refusal` has the refusals. `specs/Outcome.antt` says what each
 //! record gives, and `specs/Answers.antt` the bytes of its answer.
 
+#![tactic(auto)]
+
 ghost use Rattle.std.specs.Prelude.{◌≡◌, ◌≤◌, length, IfOk};
 ghost use Rattle.modes.specs.Faults.{answered};
 ghost use Rattle.modes.specs.Mode.{ciphered};

@@ -3,6 +3,8 @@
 //! A mode is blank or holds a key for one sector size. All modes of one Rust type are of one kind (`ModeKind`): which keys
 //! fit which sizes and, for each fitting pair and each sector number, two maps on sectors that undo each other.
 
+#![tactic(auto)]
+
 ghost use Rattle.std.specs.Prelude.{◌≡◌, ℕ, Option};
 ghost use Rattle.modes.specs.Faults.{answered, mode_fault_number};
 ghost use Rattle.modes.specs.Mode.{ModeKind, Keyed, Fitting, keyed_after, obstacle, ciphered};

@@ -1,5 +1,7 @@
 //! Piles of devices, and what each call of them answers and leaves.
 
+#![tactic(auto)]
+
 mod broken;
 mod loans;
 mod show;

@@ -1,5 +1,7 @@
 //! What is promised of the whole, in one contract.
 
+#![tactic(auto)]
+
 ghost use Rattle.runs.specs.Law.{VolumeLaw};
 ghost use Rattle.wide.specs.Undoing.{Undoing};
 

@@ -4,6 +4,8 @@
 //! direction), then key, tweak and sector, each with its length in two bytes, the first the higher. `specs/Record.antt` says
 //! what each record reads as; `parts` takes one code or one field off the front of a record.
 
+#![tactic(auto)]
+
 ghost use Rattle.std.specs.Prelude.{◌≡◌, ◌<◌};
 ghost use Rattle.records.specs.Codes.{record_fault_number, mode_named, cipher_named, direction_named};
 ghost use Rattle.records.specs.Record.{read as read_as, named as named_as, fields as fields_as, stands as stands_in};

@@ -2,5 +2,7 @@
 //!
 //! `told` says what is told of each answer; `calls` makes the calls.
 
+#![tactic(auto)]
+
 pub mod calls;
 pub mod told;

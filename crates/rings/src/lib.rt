@@ -4,6 +4,8 @@
 //! coefficient of x^(8w-1), the lowest bit of its last byte that of 1. The sum is exclusive or. `BlockRing` says what
 //! a ring is, `modular` has the rings of 1, 8 and 16 bytes, and `sums` the hash sum over the blocks of a sector.
 
+#![tactic(auto)]
+
 ghost use Rattle.std.specs.Prelude.{◌≡◌, ℕ, ◌+◌, ◌*◌, ◌/◌, ◌%◌, ◌^◌, ◌<◌, length, bit_xor};
 ghost use Rattle.std.specs.Int.Digits.{number_from_digits};
 ghost use Rattle.words.specs.Values.{valued};

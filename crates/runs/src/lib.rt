@@ -4,6 +4,8 @@
 //! calls of a script on a volume, under that law. What a history of calls says is `specs/History.antt`, and the law itself
 //! `specs/Law.antt`.
 
+#![tactic(auto)]
+
 pub mod law;
 pub mod perform;
 pub mod script;

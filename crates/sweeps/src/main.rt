@@ -1,5 +1,7 @@
 //! Key changes that are stopped at every sector, and the key changes of two volumes of which one lies on the other.
 
+#![tactic(auto)]
+
 mod pile;
 mod stops;
 

@@ -4,6 +4,8 @@
 //! each byte depends on all others and on the tweak. `hash` makes the hash key of a sector size, `tweaks` the offset β of
 //! a tweak, and `stages` what is done to a buffer; the equations are `specs/Tet.antt` of `tet_theory`.
 
+#![tactic(auto)]
+
 ghost use Rattle.std.specs.Prelude.{◌≡◌, ℕ, None, refl};
 ghost use Rattle.modes.specs.Faults.{answered};
 ghost use Rattle.modes.specs.Mode.{keyed_after, ciphered};

@@ -2,6 +2,8 @@
 //!
 //! The struct and its calls are the crate `tet`. They stand above this one, since the kind of a mode holds these proofs.
 
+#![tactic(auto)]
+
 ghost use Rattle.tet_theory.specs.Laws.{Undoing};
 
 /// Deciphering and enciphering undo each other and keep sectors, for every cipher, key, size and tweak.

@@ -1,5 +1,7 @@
 //! A newcomer's walk through what stands: each step does one real thing and prints what it did.
 
+#![tactic(auto)]
+
 use std::io;
 
 mod cipher_walk;

@@ -2,6 +2,8 @@
 //!
 //! `help` names the commands. The language is `commands`, and what the commands do is `console`.
 
+#![tactic(auto)]
+
 use console::session::run;
 use console::terminal::Terminal;
 use std::alloc::Global;

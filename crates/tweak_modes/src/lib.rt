@@ -1,5 +1,7 @@
 //! Wide modes with a tweak in bytes, under one trait.
 
+#![tactic(auto)]
+
 ghost use Rattle.std.specs.Prelude.{◌≡◌, None, Option};
 ghost use Rattle.modes.specs.Faults.{answered};
 ghost use Rattle.modes.specs.Mode.{Keyed, keyed_after, ciphered};

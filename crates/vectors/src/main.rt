@@ -5,6 +5,8 @@
 //! `< ANSWER` come in turn. The line of each case that does not agree is
 //! printed.
 
+#![tactic(auto)]
+
 use std::io;
 use std::io::BufReader;
 use texts::words::cut_word;

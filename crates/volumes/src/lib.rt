@@ -4,6 +4,8 @@
 //! `fault` why a call is refused; `volume` has the struct and the calls open, begin, step and report; `serve` one sector under
 //! one mode; `rekey` what a step does to one sector; `sectors` the volume as a device.
 
+#![tactic(auto)]
+
 pub mod fault;
 pub mod phase;
 mod rekey;

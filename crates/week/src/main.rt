@@ -2,6 +2,8 @@
 //!
 //! All calls on the volume are made by `runs::perform`, whose contract is the law of volumes.
 
+#![tactic(auto)]
+
 mod calls;
 mod show;
 

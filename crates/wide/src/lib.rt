@@ -1,5 +1,7 @@
 //! The undoing theorem of both wide modes, in one contract.
 
+#![tactic(auto)]
+
 ghost use Rattle.wide.specs.Undoing.{Undoing};
 
 /// For every block ring and cipher, every key, size, tweak and sector, deciphering undoes enciphering and enciphering undoes

@@ -2,6 +2,8 @@
 //!
 //! `Word` names the few operations that the arithmetic needs, so that it is written and proved once for every width.
 
+#![tactic(auto)]
+
 ghost use Rattle.std.specs.Prelude.{◌≡◌, ℕ, ◌-◌, ◌*◌, ◌/◌, ◌%◌, ◌^◌, ◌<◌, ◌==◌, bit_xor, nat_lt};
 ghost use Rattle.std.specs.Int.Count.{count_leading_zeros};
 

@@ -2,6 +2,8 @@
 //!
 //! A block is held as the number of its bytes, the first the highest. `specs/Xtea.antt` has the algorithm.
 
+#![tactic(auto)]
+
 ghost use Rattle.std.specs.Prelude.{◌≡◌, ℕ, ◌+◌, ◌*◌, ◌/◌, ◌%◌, ◌^◌, ◌<◌, length, replicate, slice_index};
 ghost use Rattle.xtea.specs.Laws.{Undoing};
 ghost use Rattle.xtea.specs.Xtea.{change, key_word, key_words, encipher as enciphered, decipher as deciphered};
