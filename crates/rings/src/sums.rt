@@ -8,8 +8,8 @@ use crate::BlockRing;
 
 /// Block `i` of a sector, counted from 0.
 fn block_at<R: BlockRing>(sector: &[u8], i: usize) -> R
-    requires { i < length sector.now / ring.width }
-    ensures { value result ≡ block_at ring.width i sector.now }
+    requires { i < length sector.now / R.ring.width }
+    ensures { R.value result ≡ block_at R.ring.width i sector.now }
 {
     let w = R::width();
     let start = i * w;
@@ -18,7 +18,7 @@ fn block_at<R: BlockRing>(sector: &[u8], i: usize) -> R
 
 /// H(τ; B_1..B_m) = B_1·τ^m + .. + B_m·τ over the whole blocks of a sector, by Horner's rule.
 pub fn hash_sum<R: BlockRing>(tau: R, sector: &[u8]) -> R
-    ensures { value result ≡ hash_sum ring (value tau) (blocks ring.width sector.now) }
+    ensures { R.value result ≡ hash_sum R.ring (R.value tau) (blocks R.ring.width sector.now) }
 {
     let count = sector.len() / R::width();
     let mut sum = R::zero();
@@ -30,8 +30,8 @@ pub fn hash_sum<R: BlockRing>(tau: R, sector: &[u8]) -> R
 
 /// τ^k·(1 + τ + .. + τ^(k-1)), without a product for k = 1.
 fn times_first_powers<R: BlockRing>(k: usize, power: R, sum: R) -> R
-    requires { k ≡ 1 → value sum ≡ 1 }
-    ensures { value result ≡ ring.product (value power) (value sum) }
+    requires { k ≡ 1 → R.value sum ≡ 1 }
+    ensures { R.value result ≡ R.ring.product (R.value power) (R.value sum) }
 {
     if k == 1 {
         return power;
@@ -41,7 +41,7 @@ fn times_first_powers<R: BlockRing>(k: usize, power: R, sum: R) -> R
 
 /// σ = 1 + τ + .. + τ^m, in about two products for each bit of m: from the first k powers and τ^k come the first 2k.
 pub fn power_sum<R: BlockRing>(tau: R, m: usize) -> R
-    ensures { value result ≡ sigma ring (value tau) m }
+    ensures { R.value result ≡ sigma R.ring (R.value tau) m }
 {
     let one = R::one();
     if m == 0 {

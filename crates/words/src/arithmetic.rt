@@ -9,14 +9,14 @@ use crate::Word;
 
 /// x·a
 pub fn xtime<W: Word>(low: W, a: W) -> W
-    ensures { value result ≡ xtime_of size (value low) (value a) }
+    ensures { W.value result ≡ xtime_of W.size (W.value low) (W.value a) }
 {
     a.shifted(1).add(low.masked(a.top()))
 }
 
 /// x^k·a
 pub fn times_power<W: Word>(low: W, a: W, k: u32) -> W
-    ensures { value result ≡ product size (value low) (value a) (2 ^ k) }
+    ensures { W.value result ≡ product W.size (W.value low) (W.value a) (2 ^ k) }
 {
     let mut power = a;
     for i in 0..k {
@@ -27,7 +27,7 @@ pub fn times_power<W: Word>(low: W, a: W, k: u32) -> W
 
 /// a times the polynomial of the lowest eight coefficients of b: the sum of b_k·x^k·a, k < 8.
 fn times_byte<W: Word>(low: W, a: W, b: W) -> W
-    ensures { value result ≡ product size (value low) (value a) (value b % 2 ^ 8) }
+    ensures { W.value result ≡ product W.size (W.value low) (W.value a) (W.value b % 2 ^ 8) }
 {
     let mut sum = W::zero();
     let mut power = a;
@@ -40,7 +40,7 @@ fn times_byte<W: Word>(low: W, a: W, b: W) -> W
 
 /// x^8·a. The eight coefficients that pass the word stand at x^n and above, and x^n is low.
 fn times_x8<W: Word>(low: W, a: W) -> W
-    ensures { value result ≡ product size (value low) (value a) (2 ^ 8) }
+    ensures { W.value result ≡ product W.size (W.value low) (W.value a) (2 ^ 8) }
 {
     if W::bits() < 8 {
         return times_power(low, a, 8);
@@ -56,7 +56,7 @@ fn times_x8<W: Word>(low: W, a: W) -> W
 
 /// a·b, in a time that does not depend on the operands: Horner's rule over b, eight coefficients a turn.
 pub fn multiply<W: Word>(low: W, a: W, b: W) -> W
-    ensures { value result ≡ product size (value low) (value a) (value b) }
+    ensures { W.value result ≡ product W.size (W.value low) (W.value a) (W.value b) }
 {
     let mut sum = W::zero();
     for i in (0..(W::bits() - 1) / 8 + 1).rev() {
@@ -68,7 +68,7 @@ pub fn multiply<W: Word>(low: W, a: W, b: W) -> W
 /// The inverse of a, where it has one, by Euclid's algorithm: always g·a = u and h·a = v modulo x^n + low,
 /// and what divides u and v divides a and the modulus. Its time depends on a.
 pub fn inverse<W: Word>(low: W, a: W) -> Option<W>
-    ensures { valued value result ≡ inverse_of size (value low) (value a) }
+    ensures { valued W.value result ≡ inverse_of W.size (W.value low) (W.value a) }
 {
     if a.is_zero() {
         return None;

@@ -14,8 +14,8 @@ loop-i-init g c =
     let τ = m.value c.args.tau in
     c.zero-sum.ensures ∙ sym (ap (hash_sum m.ring τ) (blocks_none m.ring.width c.args.sector.now) ∙ hash_sum_none m.ring τ)
 
-pub block-at-requires : goal.block-at-requires
-block-at-requires g c =
+pub block_at-requires : goal.block_at-requires
+block_at-requires g c =
     subst (λ (w : ℕ). c.loop-i.i < length c.args.sector.now / w) c.width.ensures c.loop-i-test.true
 
 pub loop-i-preserved : goal.loop-i-preserved
@@ -26,10 +26,10 @@ loop-i-preserved g c =
     let bytes = c.args.sector.now in
     let τ = m.value c.args.tau in
     let sum = m.value c.loop-i.sum in
-    let under : AllBelowBase 256 bytes = All-from_get_or (λ (d : ℕ). d < 256) bytes 0 (λ k _. (c.type-inv.sector k).fits) in
+    let under : AllBelowBase 256 bytes = All-from_get_or (λ (d : ℕ). d < 256) bytes 0 (λ k _. (c.type_inv.sector k).fits) in
     hash_sum_turns m.ring τ sum (block_at w i bytes) (m.value c.multiply-sum.result) (first_blocks w i bytes)
     (g.met.R.BlockRing.below c.args.tau) (block_below w i bytes under) c.loop-i.invariant
-    (c.multiply-sum.ensures ∙ ap (λ (x : ℕ). m.ring.product x τ) (c.add.ensures ∙ ap (bit_xor sum) c.block-at.ensures))
+    (c.multiply-sum.ensures ∙ ap (λ (x : ℕ). m.ring.product x τ) (c.add.ensures ∙ ap (bit_xor sum) c.block_at.ensures))
     ∙ ap (hash_sum m.ring τ) (sym (blocks_more w i bytes))
 
 pub returns : goal.returns

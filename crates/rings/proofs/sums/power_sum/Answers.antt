@@ -60,8 +60,8 @@ loop-i-init g c =
     (sym (top_bit half pos fits))
     (summed_one b.ring (b.value c.args.tau) (b.value c.one-one.result) (g.met.R.BlockRing.below c.args.tau) c.one-one.ensures)
 
-pub times-first-powers-requires : goal.times-first-powers-requires
-times-first-powers-requires g c κs e =
+pub times_first_powers-requires : goal.times_first_powers-requires
+times_first_powers-requires g c κs e =
     let b = g.R.BlockRing in
     let half = c.args.m / 2 in
     let i = c.loop-i.i in
@@ -77,8 +77,8 @@ loop-i-preserved-then-half-i-eq1 g c =
     let k = half / 2 ^ c.loop-i.i in
     let sum = b.value c.add-sum.result in
     let last = b.value c.multiply-power.result in
-    let twice = summed_doubled b.ring τ k (b.value c.loop-i.sum) (b.value c.loop-i.power) sum last (b.value c.times-first-powers.result)
-    c.loop-i.invariant c.times-first-powers.ensures c.add-sum.ensures c.multiply-power.ensures in
+    let twice = summed_doubled b.ring τ k (b.value c.loop-i.sum) (b.value c.loop-i.power) sum last (b.value c.times_first_powers.result)
+    c.loop-i.invariant c.times_first_powers.ensures c.add-sum.ensures c.multiply-power.ensures in
     let more = summed_more b.ring τ (k + k) sum last (b.value c.add-sum-then-half-i-eq1.result) (b.value c.multiply-power-then-half-i-eq1.result)
     (g.met.R.BlockRing.below c.args.tau) twice c.add-sum-then-half-i-eq1.ensures c.multiply-power-then-half-i-eq1.ensures in
     subst (λ (n : ℕ). Summed b.ring τ n (b.value c.add-sum-then-half-i-eq1.result) (b.value c.multiply-power-then-half-i-eq1.result))
@@ -92,8 +92,8 @@ loop-i-preserved g c =
     let k = half / 2 ^ c.loop-i.i in
     let sum = b.value c.add-sum.result in
     let last = b.value c.multiply-power.result in
-    let twice = summed_doubled b.ring τ k (b.value c.loop-i.sum) (b.value c.loop-i.power) sum last (b.value c.times-first-powers.result)
-    c.loop-i.invariant c.times-first-powers.ensures c.add-sum.ensures c.multiply-power.ensures in
+    let twice = summed_doubled b.ring τ k (b.value c.loop-i.sum) (b.value c.loop-i.power) sum last (b.value c.times_first_powers.result)
+    c.loop-i.invariant c.times_first_powers.ensures c.add-sum.ensures c.multiply-power.ensures in
     subst (λ (n : ℕ). Summed b.ring τ n sum last) (bit_clear half c.loop-i.i c.loop-i-test.true c.if-half-i-eq1.false) twice
 
 pub returns-then-m-eq0-2 : goal.returns-then-m-eq0-2

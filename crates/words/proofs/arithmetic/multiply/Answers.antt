@@ -18,5 +18,5 @@ loop-i-preserved g c =
     let i = c.loop-i.i in
     let one : i ≡ i - 1 + 1 = omega (arith, c.loop-i-test.true) in
     horner_turns m.size (m.value c.args.low) laws.some (laws.below c.args.low) (m.value c.args.a) (m.value c.args.b) i (i - 1)
-    (m.value c.loop-i.sum) (m.value c.lowered.result) (m.value c.times-x8.result) (m.value c.times-byte.result) (m.value c.add-sum.result)
-    one c.loop-i.invariant c.lowered.ensures c.times-x8.ensures c.times-byte.ensures c.add-sum.ensures
+    (m.value c.loop-i.sum) (m.value c.lowered.result) (m.value c.times_x8.result) (m.value c.times_byte.result) (m.value c.add-sum.result)
+    one c.loop-i.invariant c.lowered.ensures c.times_x8.ensures c.times_byte.ensures c.add-sum.ensures

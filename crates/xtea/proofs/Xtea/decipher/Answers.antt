@@ -15,19 +15,19 @@ loop-i-preserved c =
     let s = c.loop-i.s in (
       sum_back i s c.loop-i-test.true c.loop-i.invariant.0,
       inv_turn c.args.self.now.words _ i c.loop-i.v0 c.loop-i.v1 s _ _
-          c.loop-i-test.true c.loop-i.invariant.0 c.loop-i.invariant.1 c.change-by-v1.ensures c.change-by-v0.ensures,
+          c.loop-i-test.true c.loop-i.invariant.0 c.loop-i.invariant.1 c.change_by-v1.ensures c.change_by-v0.ensures,
     )
 
 pub returns : goal.returns
 unfolding decipher block_of words_of rounds_back pair
 returns c =
     let ks = c.args.self.now.words in
-    let read = ap₂ pair c.first-word-v0.ensures c.second-word-v1.ensures in
+    let read = ap₂ pair c.first_word-v0.ensures c.second_word-v1.ensures in
     let is : 0 ≡ c.loop-i.i = omega (arith, c.loop-i-test.false) in
     let done = ap (λ (n : ℕ). rounds_back ks n (pair c.loop-i.v0 c.loop-i.v1)) is ∙ c.loop-i.invariant.1 in
     record {
       block_is_deciphered =
-          c.block-of.ensures
+          c.block_of.ensures
           ∙ ap block_of (done ∙ ap (rounds_back ks 32) read)
           ∙ ap (λ (k : List ℕ). block_of (rounds_back k 32 (words_of c.args.block))) c.args.self.now.scheduled;
     }
