@@ -61,7 +61,7 @@ loop-i-init g c =
     (summed_one b.ring (b.value c.args.tau) (b.value c.one-one.result) (g.met.R.BlockRing.below c.args.tau) c.one-one.ensures)
 
 pub times_first_powers-requires : goal.times_first_powers-requires
-times_first_powers-requires g c κs e =
+times_first_powers-requires g c e =
     let b = g.R.BlockRing in
     let half = c.args.m / 2 in
     let i = c.loop-i.i in
