@@ -29,7 +29,7 @@ impl BlockCipher for Xtea {
 
     ghost held = { λ c. c.key };
 
-    ghost fitting = { λ c. row-array 16 c.key c.whole c.bytes };
+    ghost fitting = { λ c. row_array 16 c.key c.whole c.bytes };
 
     ghost over = { Prim.search rules };
 
@@ -65,7 +65,7 @@ impl BlockCipher for Aes128 {
 
     ghost held = { λ c. c.key };
 
-    ghost fitting = { λ c. row-array 16 c.key c.whole c.bytes };
+    ghost fitting = { λ c. row_array 16 c.key c.whole c.bytes };
 
     ghost over = { Prim.search rules };
 

@@ -6,7 +6,7 @@ use Rattle.aes.proofs.Aes128.encipher.Goals as goal
 
 pub loop-round-init : goal.loop-round-init
 unfolding rounds
-loop-round-init c = c.add-round-key-columns.ensures ∙ ap (add_round_key c.args.self.now.w 0) c.from-block.ensures
+loop-round-init c = c.add_round_key-columns.ensures ∙ ap (add_round_key c.args.self.now.w 0) c.from_block.ensures
 
 pub loop-round-preserved : goal.loop-round-preserved
 loop-round-preserved c =
@@ -21,5 +21,5 @@ returns c =
     let end : c.loop-round.round - 1 ≡ 9 = omega (arith, c.loop-round.auto.round-end (omega arith)) in
     let done = c.loop-round.invariant ∙ ap (λ n. rounds w n s) end in
     c.block.ensures
-    ∙ ap block_of (c.last-round.ensures ∙ ap (λ t. add_round_key w 10 (shift_rows (sub_bytes t))) done)
+    ∙ ap block_of (c.last_round.ensures ∙ ap (λ t. add_round_key w 10 (shift_rows (sub_bytes t))) done)
     ∙ ap (λ k. block_of (cipher k s)) c.args.self.now.expanded

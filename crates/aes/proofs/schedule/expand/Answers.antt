@@ -6,10 +6,10 @@ use Rattle.aes.proofs.schedule.expand.Goals as goal
 pub loop-i-init : goal.loop-i-init
 unfolding expansion
 loop-i-init c =
-    let e0 = c.key-word.ensures in
-    let e1 = c.key-word-2.ensures in
-    let e2 = c.key-word-3.ensures in
-    let e3 = c.key-word-4.ensures in
+    let e0 = c.key_word.ensures in
+    let e1 = c.key_word-2.ensures in
+    let e2 = c.key_word-3.ensures in
+    let e3 = c.key_word-4.ensures in
     (refl, cc)
 
 pub loop-i-preserved : goal.loop-i-preserved

@@ -3,4 +3,4 @@ use Rattle.aes.proofs.schedule.key_word.Goals as goal
 
 pub returns : goal.returns
 unfolding word key_word
-returns c = c.from-be-bytes.ensures
+returns c = c.from_be_bytes.ensures

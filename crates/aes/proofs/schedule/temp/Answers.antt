@@ -11,8 +11,8 @@ returns-then-i-eq0 c =
     let last = c.args.last in
     let place : i / 4 - 1 < 10 = omega arith in
     let is : i / 4 - 1 + 1 ≡ i / 4 = omega arith in
-    let sub = c.substitute.ensures ∙ substituted_word _ ∙ ap sub_word (c.rotate-left-turned.ensures ∙ turned_left last c.ranges.last.fits) in
-    ap₂ bit_xor sub (c.round-constants.ensures.entries (i / 4 - 1) place ∙ ap rcon is)
+    let sub = c.substitute.ensures ∙ substituted_word _ ∙ ap sub_word (c.rotate_left-turned.ensures ∙ turned_left last c.ranges.last.fits) in
+    ap₂ bit_xor sub (c.round_constants.ensures.entries (i / 4 - 1) place ∙ ap rcon is)
     ∙ sym (ap (λ t. cond t (bit_xor (sub_word (rot_word last)) (rcon (i / 4))) last) (eq-eqb (i % 4) 0 c.if-i-eq0.true))
 
 pub returns-else-i-eq0 : goal.returns-else-i-eq0

@@ -7,9 +7,9 @@ use Rattle.aes.proofs.steps.inv_substitute.Goals as goal
 pub returns : goal.returns
 unfolding word inv_substituted
 returns c =
-    c.from-be-bytes.ensures
+    c.from_be_bytes.ensures
     ∙ word_cong
-    (c.inv-sub-byte.ensures ∙ ap inv_sbox c.byte.ensures)
-    (c.inv-sub-byte-2.ensures ∙ ap inv_sbox c.byte_2.ensures)
-    (c.inv-sub-byte-3.ensures ∙ ap inv_sbox c.byte_3.ensures)
-    (c.inv-sub-byte-4.ensures ∙ ap inv_sbox c.byte-4.ensures)
+    (c.inv_sub_byte.ensures ∙ ap inv_sbox c.byte.ensures)
+    (c.inv_sub_byte-2.ensures ∙ ap inv_sbox c.byte-2.ensures)
+    (c.inv_sub_byte-3.ensures ∙ ap inv_sbox c.byte-3.ensures)
+    (c.inv_sub_byte-4.ensures ∙ ap inv_sbox c.byte-4.ensures)

@@ -15,7 +15,7 @@ returns c =
     in
     c.merge.ensures
     ∙ merged_cong
-    (at 0 c.args.a _ c.byte.ensures) (at 1 c.args.b _ c.byte_2.ensures)
-    (at 2 c.args.c _ c.byte_3.ensures) (at 3 c.args.d _ c.byte-4.ensures)
+    (at 0 c.args.a _ c.byte.ensures) (at 1 c.args.b _ c.byte-2.ensures)
+    (at 2 c.args.c _ c.byte-3.ensures) (at 3 c.args.d _ c.byte-4.ensures)
     ∙ mix_merged (sbox (byte 0 c.args.a)) (sbox (byte 1 c.args.b)) (sbox (byte 2 c.args.c)) (sbox (byte 3 c.args.d))
     (sbox_lt _) (sbox_lt _) (sbox_lt _) (sbox_lt _)

@@ -7,9 +7,9 @@ use Rattle.aes.proofs.steps.substitute.Goals as goal
 pub returns : goal.returns
 unfolding word substituted
 returns c =
-    c.from-be-bytes.ensures
+    c.from_be_bytes.ensures
     ∙ word_cong
-    (c.sub-byte.ensures ∙ ap sbox c.byte.ensures)
-    (c.sub-byte-2.ensures ∙ ap sbox c.byte_2.ensures)
-    (c.sub-byte-3.ensures ∙ ap sbox c.byte_3.ensures)
-    (c.sub-byte-4.ensures ∙ ap sbox c.byte-4.ensures)
+    (c.sub_byte.ensures ∙ ap sbox c.byte.ensures)
+    (c.sub_byte-2.ensures ∙ ap sbox c.byte-2.ensures)
+    (c.sub_byte-3.ensures ∙ ap sbox c.byte-3.ensures)
+    (c.sub_byte-4.ensures ∙ ap sbox c.byte-4.ensures)

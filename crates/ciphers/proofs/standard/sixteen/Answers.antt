@@ -7,5 +7,5 @@ use Rattle.ciphers.proofs.standard.sixteen.Goals as goal
 pub returns : goal.returns
 returns c =
     let key = c.args.key.now in
-    let good : row 16 key ≡ true = row_array 16 key c.if-key-ne16.false (λ i. (c.type-inv.key i).fits) in
-    ap Some c.copy-from-slice.ensures.after ∙ sym (cond-true (row 16 key) (Some key) None good)
+    let good : row 16 key ≡ true = row_array 16 key c.if-key-ne16.false (λ i. (c.type_inv.key i).fits) in
+    ap Some c.copy_from_slice.ensures.after ∙ sym (cond-true (row 16 key) (Some key) None good)

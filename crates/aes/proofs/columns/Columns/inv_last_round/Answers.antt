@@ -6,6 +6,6 @@ use Rattle.aes.proofs.columns.Columns.inv_last_round.Goals as goal
 
 pub returns : goal.returns
 returns c =
-    c.add-round-key.ensures
+    c.add_round_key.ensures
     ∙ ap (add_round_key c.args.w.now 0)
-    (inv_shifted (state c.args.self) _ _ _ _ c.inv-substitute.ensures c.inv-substitute-2.ensures c.inv-substitute-3.ensures c.inv-substitute-4.ensures)
+    (inv_shifted (state c.args.self) _ _ _ _ c.inv_substitute.ensures c.inv_substitute-2.ensures c.inv_substitute-3.ensures c.inv_substitute-4.ensures)

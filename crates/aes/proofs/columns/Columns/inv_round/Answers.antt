@@ -6,6 +6,6 @@ use Rattle.aes.proofs.columns.Columns.inv_round.Goals as goal
 
 pub returns : goal.returns
 returns c =
-    c.add-round-key.ensures
+    c.add_round_key.ensures
     ∙ ap (add_round_key c.args.dw.now c.args.round)
-    (inv_mixed (state c.args.self) _ _ _ _ c.inv-round-column.ensures c.inv-round-column-2.ensures c.inv-round-column-3.ensures c.inv-round-column-4.ensures)
+    (inv_mixed (state c.args.self) _ _ _ _ c.inv_round_column.ensures c.inv_round_column-2.ensures c.inv_round_column-3.ensures c.inv_round_column-4.ensures)

@@ -6,6 +6,6 @@ use Rattle.aes.proofs.columns.Columns.round.Goals as goal
 
 pub returns : goal.returns
 returns c =
-    c.add-round-key.ensures
+    c.add_round_key.ensures
     ∙ ap (add_round_key c.args.w.now c.args.round)
-    (mixed (state c.args.self) _ _ _ _ c.round-column.ensures c.round-column-2.ensures c.round-column-3.ensures c.round-column-4.ensures)
+    (mixed (state c.args.self) _ _ _ _ c.round_column.ensures c.round_column-2.ensures c.round_column-3.ensures c.round_column-4.ensures)

@@ -11,8 +11,8 @@ returns g c =
     let w = g.R.BlockRing.ring.width in
     let key = c.args.key.now in
     let same : length key ≡ w = c.if-key-width.false ∙ c.width.ensures in
-    let good : row w key ≡ true = row_array w key same (λ i. (c.type-inv.key i).fits) in
-    let under = All-from_get_or (λ (d : ℕ). d < 256) key 0 (λ i _. (c.type-inv.key i).fits) in
-    let kept : bytes_of w (g.R.BlockRing.value c.from-bytes-self.result) ≡ key =
-    ap (bytes_of w) (c.from-bytes-self.ensures ∙ mod-eq_of_lt (row_block w key good)) ∙ rw same at (bytes_of_number key under) in
+    let good : row w key ≡ true = row_array w key same (λ i. (c.type_inv.key i).fits) in
+    let under = All-from_get_or (λ (d : ℕ). d < 256) key 0 (λ i _. (c.type_inv.key i).fits) in
+    let kept : bytes_of w (g.R.BlockRing.value c.from_bytes-self.result) ≡ key =
+    ap (bytes_of w) (c.from_bytes-self.ensures ∙ mod-eq_of_lt (row_block w key good)) ∙ rw same at (bytes_of_number key under) in
     record { answer = simp good; key_is_held = simp good kept }
