@@ -135,7 +135,7 @@ def main():
                 return re.sub(r"(?<![\w\-])[a-z][\w\-]*(?![\w\-])", lambda k: snake(k[0]) if k[0] in declared and re.search("[A-Z]", k[0]) else "bit_xor" if k[0] == "bitXor" else k[0], w)
             if w[0] in "\"'«b" and re.match(r"b?['\"]", w):
                 return w
-            if source and not re.search("[A-Z]", w):
+            if source and not re.search("[A-Z]", w) and w not in declared:
                 return w
             if w in APART and not source:
                 return APART[w]

@@ -3,7 +3,7 @@
 ghost use Rattle.std.specs.Prelude.{◌≡◌, if◌then◌else◌, Some, None};
 ghost use Rattle.ciphers.specs.Kinds.{aes128, xtea as xtea_kind};
 ghost use Rattle.rings.specs.Rows.{row};
-ghost use Rattle.rings.proofs.Rows.{row-array};
+ghost use Rattle.rings.proofs.Rows.{row_array};
 ghost use Rattle.std.proofs.Common.{rules};
 
 use crate::{BlockCipher, KeyFault};

@@ -1,7 +1,7 @@
 ghost use Rattle.std.specs.Prelude.{◌≡◌, length};
 ghost use Rattle.devices.specs.Device.{answer, after_read, after_write};
 ghost use Rattle.layers.specs.Join.{join_of, first_after, second_after};
-ghost use Rattle.layers.specs.Sounds.{join-sounds};
+ghost use Rattle.layers.specs.Sounds.{join_sounds};
 
 use devices::call::{check, pass_up};
 use devices::device::SectorDevice;
@@ -27,7 +27,7 @@ impl<D: SectorDevice, E: SectorDevice> Join<D, E> {
 impl<D: SectorDevice, E: SectorDevice> SectorDevice for Join<D, E> {
     ghost meaning = { λ j. join_of (D.SectorDevice.meaning j.first) (E.SectorDevice.meaning j.second) };
 
-    ghost sound = { λ j. join-sounds (D.SectorDevice.meaning j.first) (E.SectorDevice.meaning j.second) (D.SectorDevice.sound j.first) (E.SectorDevice.sound j.second) };
+    ghost sound = { λ j. join_sounds (D.SectorDevice.meaning j.first) (E.SectorDevice.meaning j.second) (D.SectorDevice.sound j.first) (E.SectorDevice.sound j.second) };
 
     fn size(&self) -> u32 {
         self.first.size()

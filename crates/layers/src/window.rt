@@ -1,7 +1,7 @@
 ghost use Rattle.std.specs.Prelude.{◌≡◌, ◌+◌, length};
 ghost use Rattle.devices.specs.Device.{answer, after_read, after_write, written_if};
 ghost use Rattle.layers.specs.Window.{window_of};
-ghost use Rattle.layers.specs.Sounds.{window-sounds};
+ghost use Rattle.layers.specs.Sounds.{window_sounds};
 
 use devices::call::{check, pass_up};
 use devices::device::SectorDevice;
@@ -33,7 +33,7 @@ impl<D: SectorDevice> Window<D> {
 impl<D: SectorDevice> SectorDevice for Window<D> {
     ghost meaning = { λ w. window_of w.start w.wanted (D.SectorDevice.meaning w.device) };
 
-    ghost sound = { λ w. window-sounds w.start w.wanted (D.SectorDevice.meaning w.device) (D.SectorDevice.sound w.device) };
+    ghost sound = { λ w. window_sounds w.start w.wanted (D.SectorDevice.meaning w.device) (D.SectorDevice.sound w.device) };
 
     fn size(&self) -> u32 {
         self.device.size()

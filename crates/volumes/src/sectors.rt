@@ -1,6 +1,6 @@
 ghost use Rattle.std.specs.Prelude.{◌≡◌, length};
 ghost use Rattle.devices.specs.Device.{answer, after_read, after_write};
-ghost use Rattle.volumes.specs.Sounds.{volume-sounds};
+ghost use Rattle.volumes.specs.Sounds.{volume_sounds};
 ghost use Rattle.volumes.specs.Volume.{view, serving, open_check, volume_of, after_write_to};
 
 use crate::phase::Phase;
@@ -41,7 +41,7 @@ impl<D: SectorDevice, M: WideMode> Volume<D, M> {
 impl<D: SectorDevice, M: WideMode> SectorDevice for Volume<D, M> {
     ghost meaning = { λ v. volume_of M.WideMode.kind (view D.SectorDevice.meaning M.WideMode.state v) };
 
-    ghost sound = { λ v. volume-sounds M.WideMode.kind (view D.SectorDevice.meaning M.WideMode.state v) (M.WideMode.fitting v.current) (M.WideMode.fitting v.next) (D.SectorDevice.sound v.device) };
+    ghost sound = { λ v. volume_sounds M.WideMode.kind (view D.SectorDevice.meaning M.WideMode.state v) (M.WideMode.fitting v.current) (M.WideMode.fitting v.next) (D.SectorDevice.sound v.device) };
 
     fn size(&self) -> u32 {
         self.device.size()
