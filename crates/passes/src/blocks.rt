@@ -9,7 +9,7 @@ use rings::BlockRing;
 
 /// Adds one block to each.
 pub fn add_to_each<R: BlockRing>(block: R, sector: &mut [u8])
-    ensures block_is_added { sector.new ≡ rowwise ring.width (added (value block)) sector.old }
+    ensures block_is_added { sector.new ≡ rowwise R.ring.width (added (R.value block)) sector.old }
 {
     let w = R::width();
     for i in 0..sector.len() / w {
@@ -21,7 +21,7 @@ pub fn add_to_each<R: BlockRing>(block: R, sector: &mut [u8])
 
 /// Adds α^(i-1)·β to block i, counted from 1.
 pub fn whiten<R: BlockRing>(beta: R, sector: &mut [u8])
-    ensures sector_is_whitened { sector.new ≡ rowwise ring.width (whitened ring (value beta)) sector.old }
+    ensures sector_is_whitened { sector.new ≡ rowwise R.ring.width (whitened R.ring (R.value beta)) sector.old }
 {
     let w = R::width();
     let mut offset = beta;

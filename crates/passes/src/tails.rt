@@ -9,7 +9,7 @@ use rings::BlockRing;
 
 /// The bytes, the byte 80, then zeros up to w bytes. Of more bytes than that the last w count.
 pub fn pad_block<R: BlockRing>(bytes: &[u8]) -> R
-    ensures bytes_are_padded { value result ≡ pad ring bytes.now % size ring }
+    ensures bytes_are_padded { R.value result ≡ pad R.ring bytes.now % size R.ring }
 {
     let mut block = R::from_bytes(bytes).pushed(0x80);
     for i in 0..R::width().saturating_sub(1).saturating_sub(bytes.len()) {
@@ -20,7 +20,7 @@ pub fn pad_block<R: BlockRing>(bytes: &[u8]) -> R
 
 /// The padded tail of a sector, or 0 without one.
 pub fn tail_block<R: BlockRing>(sector: &[u8]) -> R
-    ensures tail_is_padded { value result ≡ tail_block ring (parted ring.width sector.now).tail }
+    ensures tail_is_padded { R.value result ≡ tail_block R.ring (parted R.ring.width sector.now).tail }
 {
     let w = R::width();
     let whole = sector.len() / w * w;
@@ -32,7 +32,7 @@ pub fn tail_block<R: BlockRing>(sector: &[u8]) -> R
 
 /// Adds the first bytes of a block to a tail; what the tail has past a block stays.
 pub fn mix<R: BlockRing>(block: R, tail: &mut [u8])
-    ensures tail_is_mixed { tail.new ≡ mixed ring (value block) tail.old }
+    ensures tail_is_mixed { tail.new ≡ mixed R.ring (R.value block) tail.old }
 {
     let w = R::width();
     for j in 0..tail.len().min(w) {

@@ -8,8 +8,8 @@ use modes::WideMode;
 
 /// Deciphers a sector with one mode and enciphers it with the other.
 fn recipher<M: WideMode>(current: &M, next: &M, sector: u32, buffer: &mut [u8]) -> Result<(), Fault>
-    ensures call_is_answered { result ≡ both_check (state current.now) (state next.now) (length buffer.old) sector }
-    ensures buffer_is_reciphered { buffer.new ≡ reciphered kind (state current.now) (state next.now) sector buffer.old }
+    ensures call_is_answered { result ≡ both_check (M.state current.now) (M.state next.now) (length buffer.old) sector }
+    ensures buffer_is_reciphered { buffer.new ≡ reciphered M.kind (M.state current.now) (M.state next.now) sector buffer.old }
 {
     decipher(current, sector, buffer)?;
     encipher(next, sector, buffer)

@@ -29,7 +29,7 @@ impl<D: SectorDevice, M: WideMode> Volume<D, M> {
 
     /// The mode that serves a sector: below the mark the next, otherwise the current.
     fn serving(&self, sector: u32) -> &M
-        ensures { state result.now ≡ serving (view meaning state self.now) sector }
+        ensures { M.state result.now ≡ serving (view D.meaning M.state self.now) sector }
     {
         match self.phase {
             Phase::Sweeping(mark) if sector < mark => &self.next,

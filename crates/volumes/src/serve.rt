@@ -32,16 +32,16 @@ fn sector_answer(answer: Result<(), ModeFault>, sector: u32) -> Result<(), Fault
 }
 
 pub fn encipher<M: WideMode>(mode: &M, sector: u32, buffer: &mut [u8]) -> Result<(), Fault>
-    ensures call_is_answered { result ≡ mode_check (state mode.now) (length buffer.old) sector }
-    ensures buffer_is_enciphered { buffer.new ≡ enciphered_by kind (state mode.now) sector buffer.old }
+    ensures call_is_answered { result ≡ mode_check (M.state mode.now) (length buffer.old) sector }
+    ensures buffer_is_enciphered { buffer.new ≡ enciphered_by M.kind (M.state mode.now) sector buffer.old }
 {
     holds_bytes(buffer);
     sector_answer(mode.encipher(sector, buffer), sector)
 }
 
 pub fn decipher<M: WideMode>(mode: &M, sector: u32, buffer: &mut [u8]) -> Result<(), Fault>
-    ensures call_is_answered { result ≡ mode_check (state mode.now) (length buffer.old) sector }
-    ensures buffer_is_deciphered { buffer.new ≡ deciphered_by kind (state mode.now) sector buffer.old }
+    ensures call_is_answered { result ≡ mode_check (M.state mode.now) (length buffer.old) sector }
+    ensures buffer_is_deciphered { buffer.new ≡ deciphered_by M.kind (M.state mode.now) sector buffer.old }
 {
     holds_bytes(buffer);
     sector_answer(mode.decipher(sector, buffer), sector)

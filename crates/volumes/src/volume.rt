@@ -31,7 +31,7 @@ fn name(call: CallName, answer: Result<(), Refusal>) -> Result<(), VolumeFault>
 impl<D: SectorDevice, M: WideMode> Volume<D, M> {
     /// A closed volume. What keys the modes held before does not count.
     pub fn new(device: D, current: M, next: M) -> Self
-        ensures volume_is_closed { view meaning state result ≡ fresh (meaning device) (state current) (state next) }
+        ensures volume_is_closed { view D.meaning M.state result ≡ fresh (D.meaning device) (M.state current) (M.state next) }
     {
         Volume {
             device,
@@ -42,8 +42,8 @@ impl<D: SectorDevice, M: WideMode> Volume<D, M> {
     }
 
     fn key_current(&mut self, key: &[u8]) -> Result<(), Refusal>
-        ensures call_is_answered { result ≡ open_answer kind (view meaning state self.old) key.now }
-        ensures volume_is_opened { view meaning state self.new ≡ after_open kind (view meaning state self.old) key.now }
+        ensures call_is_answered { result ≡ open_answer M.kind (view D.meaning M.state self.old) key.now }
+        ensures volume_is_opened { view D.meaning M.state self.new ≡ after_open M.kind (view D.meaning M.state self.old) key.now }
     {
         let Phase::Closed = self.phase else {
             return Err(Refusal::AlreadyOpen);
@@ -59,15 +59,15 @@ impl<D: SectorDevice, M: WideMode> Volume<D, M> {
 
     /// Opens the volume with a key for all its sectors.
     pub fn open(&mut self, key: &[u8]) -> Result<(), VolumeFault>
-        ensures call_is_answered { result ≡ named CallName.Open (open_answer kind (view meaning state self.old) key.now) }
-        ensures volume_is_opened { view meaning state self.new ≡ after_open kind (view meaning state self.old) key.now }
+        ensures call_is_answered { result ≡ named CallName.Open (open_answer M.kind (view D.meaning M.state self.old) key.now) }
+        ensures volume_is_opened { view D.meaning M.state self.new ≡ after_open M.kind (view D.meaning M.state self.old) key.now }
     {
         name(CallName::Open, self.key_current(key))
     }
 
     fn key_next(&mut self, key: &[u8]) -> Result<(), Refusal>
-        ensures call_is_answered { result ≡ begin_answer kind (view meaning state self.old) key.now }
-        ensures sweep_is_begun { view meaning state self.new ≡ after_begin kind (view meaning state self.old) key.now }
+        ensures call_is_answered { result ≡ begin_answer M.kind (view D.meaning M.state self.old) key.now }
+        ensures sweep_is_begun { view D.meaning M.state self.new ≡ after_begin M.kind (view D.meaning M.state self.old) key.now }
     {
         match self.phase {
             Phase::Closed => Err(Refusal::Closed),
@@ -83,15 +83,15 @@ impl<D: SectorDevice, M: WideMode> Volume<D, M> {
 
     /// Begins a sweep that changes the key, with no sector changed yet.
     pub fn begin(&mut self, key: &[u8]) -> Result<(), VolumeFault>
-        ensures call_is_answered { result ≡ named CallName.Begin (begin_answer kind (view meaning state self.old) key.now) }
-        ensures sweep_is_begun { view meaning state self.new ≡ after_begin kind (view meaning state self.old) key.now }
+        ensures call_is_answered { result ≡ named CallName.Begin (begin_answer M.kind (view D.meaning M.state self.old) key.now) }
+        ensures sweep_is_begun { view D.meaning M.state self.new ≡ after_begin M.kind (view D.meaning M.state self.old) key.now }
     {
         name(CallName::Begin, self.key_next(key))
     }
 
     fn move_mark(&mut self) -> Result<(), Refusal>
-        ensures call_is_answered { result ≡ step_answer (view meaning state self.old) }
-        ensures sector_is_rekeyed { view meaning state self.new ≡ after_step kind (view meaning state self.old) }
+        ensures call_is_answered { result ≡ step_answer (view D.meaning M.state self.old) }
+        ensures sector_is_rekeyed { view D.meaning M.state self.new ≡ after_step M.kind (view D.meaning M.state self.old) }
     {
         match self.phase {
             Phase::Closed => Err(Refusal::Closed),
@@ -112,8 +112,8 @@ impl<D: SectorDevice, M: WideMode> Volume<D, M> {
     /// Changes the key of the sector at the mark and moves the mark by one. At the last sector the sweep is over, and the
     /// next key is the current one. A sector with a standing fault is passed over.
     pub fn step(&mut self) -> Result<(), VolumeFault>
-        ensures call_is_answered { result ≡ named CallName.Step (step_answer (view meaning state self.old)) }
-        ensures sector_is_rekeyed { view meaning state self.new ≡ after_step kind (view meaning state self.old) }
+        ensures call_is_answered { result ≡ named CallName.Step (step_answer (view D.meaning M.state self.old)) }
+        ensures sector_is_rekeyed { view D.meaning M.state self.new ≡ after_step M.kind (view D.meaning M.state self.old) }
     {
         name(CallName::Step, self.move_mark())
     }
@@ -127,7 +127,7 @@ impl<D: SectorDevice, M: WideMode> Volume<D, M> {
 
     /// What the volume is doing.
     pub fn report(&self) -> Phase
-        ensures phase_is_told { result ≡ (view meaning state self.now).phase }
+        ensures phase_is_told { result ≡ (view D.meaning M.state self.now).phase }
     {
         let Volume { phase, .. } = self;
         *phase

@@ -6,14 +6,14 @@ use Rattle.rings.proofs.Bytes.{block_inside}
 use Rattle.passes.proofs.Loops.{each_none, step, all_alike}
 use Rattle.passes.proofs.blocks.add_to_each.Goals as goal
 
-pub overflow-mul-start : goal.overflow-mul-start
-overflow-mul-start g c = let h = block_inside c.loop-i.i (length c.args.sector.now) c.width-w.result c.loop-i-test.true in search rules
+pub overflow_mul-start : goal.overflow_mul-start
+overflow_mul-start g c = let h = block_inside c.loop-i.i (length c.args.sector.now) c.width-w.result c.loop-i-test.true in search rules
 
-pub overflow-add-part : goal.overflow-add-part
-overflow-add-part g c = let h = block_inside c.loop-i.i (length c.args.sector.now) c.width-w.result c.loop-i-test.true in search rules
+pub overflow_add-part : goal.overflow_add-part
+overflow_add-part g c = let h = block_inside c.loop-i.i (length c.args.sector.now) c.width-w.result c.loop-i-test.true in search rules
 
-pub slice-bounds-part-end : goal.slice-bounds-part-end
-slice-bounds-part-end g c = let h = block_inside c.loop-i.i (length c.args.sector.now) c.width-w.result c.loop-i-test.true in omega arith
+pub slice_bounds-part-end : goal.slice_bounds-part-end
+slice_bounds-part-end g c = let h = block_inside c.loop-i.i (length c.args.sector.now) c.width-w.result c.loop-i-test.true in omega arith
 
 pub loop-i-init : goal.loop-i-init
 loop-i-init g c =
@@ -30,9 +30,9 @@ loop-i-preserved g c =
     let under : AllBelowBase 256 bs = All-from_get_or (λ (d : ℕ). d < 256) bs 0 (λ k _. bytes k) in
     let inside = block_inside i (length bs) v c.loop-i-test.true in
     let b = m.value c.args.block in
-    let sum = c.add.ensures ∙ ap (λ (x : ℕ). bit_xor x b) c.from-bytes.ensures in
-    step m.ring.width (λ _ x. bit_xor x b) bs under v c.width-w.ensures c.loop-i.sector c.to-bytes.new.bytes i (m.value c.add.result)
-    inside c.loop-i.invariant c.to-bytes.ensures sum
+    let sum = c.add.ensures ∙ ap (λ (x : ℕ). bit_xor x b) c.from_bytes.ensures in
+    step m.ring.width (λ _ x. bit_xor x b) bs under v c.width-w.ensures c.loop-i.sector c.to_bytes.new.bytes i (m.value c.add.result)
+    inside c.loop-i.invariant c.to_bytes.ensures sum
 
 pub returns : goal.returns
 returns g c =

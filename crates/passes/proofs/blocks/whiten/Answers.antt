@@ -8,14 +8,14 @@ use Rattle.passes.proofs.Loops.{each_none, step, all_blocks}
 use Rattle.passes.proofs.Stages.{offset_first, offset_more}
 use Rattle.passes.proofs.blocks.whiten.Goals as goal
 
-pub overflow-mul-start : goal.overflow-mul-start
-overflow-mul-start g c = let h = block_inside c.loop-i.i (length c.args.sector.now) c.width-w.result c.loop-i-test.true in search rules
+pub overflow_mul-start : goal.overflow_mul-start
+overflow_mul-start g c = let h = block_inside c.loop-i.i (length c.args.sector.now) c.width-w.result c.loop-i-test.true in search rules
 
-pub overflow-add-part : goal.overflow-add-part
-overflow-add-part g c = let h = block_inside c.loop-i.i (length c.args.sector.now) c.width-w.result c.loop-i-test.true in search rules
+pub overflow_add-part : goal.overflow_add-part
+overflow_add-part g c = let h = block_inside c.loop-i.i (length c.args.sector.now) c.width-w.result c.loop-i-test.true in search rules
 
-pub slice-bounds-part-end : goal.slice-bounds-part-end
-slice-bounds-part-end g c = let h = block_inside c.loop-i.i (length c.args.sector.now) c.width-w.result c.loop-i-test.true in omega arith
+pub slice_bounds-part-end : goal.slice_bounds-part-end
+slice_bounds-part-end g c = let h = block_inside c.loop-i.i (length c.args.sector.now) c.width-w.result c.loop-i-test.true in omega arith
 
 pub loop-i-init : goal.loop-i-init
 loop-i-init g c =
@@ -33,11 +33,11 @@ loop-i-preserved g c =
     let under : AllBelowBase 256 bs = All-from_get_or (λ (d : ℕ). d < 256) bs 0 (λ k _. bytes k) in
     let inside = block_inside i (length bs) v c.loop-i-test.true in
     let β = m.value c.args.beta in
-    let sum = c.add.ensures ∙ ap₂ bit_xor c.from-bytes.ensures c.loop-i.invariant.0 in
-    let next = c.times-alpha-offset.ensures ∙ ap (m.ring.product 2) c.loop-i.invariant.0 ∙ offset_more m.ring β i in (
+    let sum = c.add.ensures ∙ ap₂ bit_xor c.from_bytes.ensures c.loop-i.invariant.0 in
+    let next = c.times_alpha-offset.ensures ∙ ap (m.ring.product 2) c.loop-i.invariant.0 ∙ offset_more m.ring β i in (
       next,
-      step m.ring.width (whitened_at m.ring β) bs under v c.width-w.ensures c.loop-i.sector c.to-bytes.new.bytes i (m.value c.add.result)
-          inside c.loop-i.invariant.1 c.to-bytes.ensures sum,
+      step m.ring.width (whitened_at m.ring β) bs under v c.width-w.ensures c.loop-i.sector c.to_bytes.new.bytes i (m.value c.add.result)
+          inside c.loop-i.invariant.1 c.to_bytes.ensures sum,
     )
 
 pub returns : goal.returns

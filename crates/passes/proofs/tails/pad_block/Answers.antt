@@ -11,7 +11,7 @@ loop-i-init g c =
     let n = size g.R.BlockRing.ring in
     let bs = c.args.bytes.now in
     c.pushed-block.ensures
-    ∙ ap (λ (x : ℕ). (x * 256 + 128) % n) c.from-bytes.ensures
+    ∙ ap (λ (x : ℕ). (x * 256 + 128) % n) c.from_bytes.ensures
     ∙ mod_shift (number_from_digits 256 bs) 128 n
     ∙ ap (λ (x : ℕ). x % n) (sym (number_push 256 bs 128))
 
@@ -24,5 +24,5 @@ pub returns : goal.returns
 returns g c =
     let m = g.R.BlockRing in
     let bs = c.args.bytes.now in
-    let same : c.loop-i.i ≡ m.ring.width - 1 - length bs = omega (arith, c.saturating-sub.ensures, c.width.ensures) in
+    let same : c.loop-i.i ≡ m.ring.width - 1 - length bs = omega (arith, c.saturating_sub.ensures, c.width.ensures) in
     record { bytes_are_padded = c.loop-i.invariant ∙ ap (λ (i : ℕ). number_from_digits 256 (bs ++ (128 ∷ replicate i 0)) % size m.ring) same }

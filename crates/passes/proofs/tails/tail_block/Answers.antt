@@ -10,5 +10,5 @@ returns-then-whole-sector g c =
 pub returns : goal.returns
 returns g c =
     let bs = c.args.sector.now in
-    let under = All-from_get_or (λ (d : ℕ). d < 256) bs 0 (λ k _. (c.type-inv.sector k).fits) in
-    record { tail_is_padded = c.pad-block.ensures.bytes_are_padded ∙ tail_some g.R.BlockRing.ring bs under c.width-w.result c.width-w.ensures c.if-whole-sector.false }
+    let under = All-from_get_or (λ (d : ℕ). d < 256) bs 0 (λ k _. (c.type_inv.sector k).fits) in
+    record { tail_is_padded = c.pad_block.ensures.bytes_are_padded ∙ tail_some g.R.BlockRing.ring bs under c.width-w.result c.width-w.ensures c.if-whole-sector.false }

@@ -9,6 +9,6 @@ returns g c =
     let i = c.args.sector in
     let bytes = c.args.buffer.now in
     record {
-      call_is_answered = c.sector-answer.ensures ∙ ap (λ r. mode_answer r i) c.encipher.ensures.answer ∙ answer_is s bytes i;
-      buffer_is_enciphered = c.encipher.ensures.buffer_is_enciphered ∙ enciphered_is g.M.WideMode.kind i bytes c.holds-bytes.ensures s;
+      call_is_answered = c.sector_answer.ensures ∙ ap (λ r. mode_answer r i) c.encipher.ensures.answer ∙ answer_is s bytes i;
+      buffer_is_enciphered = c.encipher.ensures.buffer_is_enciphered ∙ enciphered_is g.M.WideMode.kind i bytes c.holds_bytes.ensures s;
     }
