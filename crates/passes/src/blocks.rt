@@ -35,7 +35,7 @@ pub fn whiten<R: BlockRing>(beta: R, sector: &mut [u8])
 
 /// Puts E_K of each block in its place.
 pub fn encipher_each<C: BlockCipher>(cipher: &C, sector: &mut [u8])
-    ensures blocks_are_enciphered { sector.new ≡ rowwise Ring-as-BlockRing.ring.width (mapped (C.BlockCipher.kind.encipher (C.BlockCipher.held cipher.now))) sector.old }
+    ensures blocks_are_enciphered { sector.new ≡ rowwise C.Ring.BlockRing.ring.width (mapped (C.BlockCipher.kind.encipher (C.BlockCipher.held cipher.now))) sector.old }
 {
     let w = C::Ring::width();
     for i in 0..sector.len() / w {
@@ -49,7 +49,7 @@ pub fn encipher_each<C: BlockCipher>(cipher: &C, sector: &mut [u8])
 
 /// Puts D_K of each block in its place.
 pub fn decipher_each<C: BlockCipher>(cipher: &C, sector: &mut [u8])
-    ensures blocks_are_deciphered { sector.new ≡ rowwise Ring-as-BlockRing.ring.width (mapped (C.BlockCipher.kind.decipher (C.BlockCipher.held cipher.now))) sector.old }
+    ensures blocks_are_deciphered { sector.new ≡ rowwise C.Ring.BlockRing.ring.width (mapped (C.BlockCipher.kind.decipher (C.BlockCipher.held cipher.now))) sector.old }
 {
     let w = C::Ring::width();
     for i in 0..sector.len() / w {

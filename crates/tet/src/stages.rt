@@ -32,8 +32,8 @@ fn unblend<R: BlockRing>(hash: Hash<R>, sector: &mut [u8])
 
 /// B_i = E(A_i); with a tail, U = E(A_m), B_m = E(U), and U's first bytes are added to the tail.
 fn encipher_blocks<C: BlockCipher>(cipher: &C, sector: &mut [u8])
-    requires { Ring-as-BlockRing.ring.width ≤ length sector.old }
-    ensures { sector.new ≡ rowwise Ring-as-BlockRing.ring.width (crypted Ring-as-BlockRing.ring (C.BlockCipher.kind.encipher (C.BlockCipher.held cipher.now))) sector.old }
+    requires { C.Ring.BlockRing.ring.width ≤ length sector.old }
+    ensures { sector.new ≡ rowwise C.Ring.BlockRing.ring.width (crypted C.Ring.BlockRing.ring (C.BlockCipher.kind.encipher (C.BlockCipher.held cipher.now))) sector.old }
 {
     let w = C::Ring::width();
     let whole = sector.len() / w * w;
@@ -50,8 +50,8 @@ fn encipher_blocks<C: BlockCipher>(cipher: &C, sector: &mut [u8])
 
 /// A_i = D(B_i); with a tail, U = D(B_m), A_m = D(U), and U's first bytes are added to the tail.
 fn decipher_blocks<C: BlockCipher>(cipher: &C, sector: &mut [u8])
-    requires { Ring-as-BlockRing.ring.width ≤ length sector.old }
-    ensures { sector.new ≡ rowwise Ring-as-BlockRing.ring.width (crypted Ring-as-BlockRing.ring (C.BlockCipher.kind.decipher (C.BlockCipher.held cipher.now))) sector.old }
+    requires { C.Ring.BlockRing.ring.width ≤ length sector.old }
+    ensures { sector.new ≡ rowwise C.Ring.BlockRing.ring.width (crypted C.Ring.BlockRing.ring (C.BlockCipher.kind.decipher (C.BlockCipher.held cipher.now))) sector.old }
 {
     let w = C::Ring::width();
     let whole = sector.len() / w * w;

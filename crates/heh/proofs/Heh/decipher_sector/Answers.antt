@@ -45,6 +45,6 @@ returns g c =
       answer = c.in-ok-admit.ensures.answer;
       buffer_is_deciphered =
           c.decipher.ensures
-          ∙ decipher_is k key ℓ (sector_tweak k.ring s) bs g.Ring.BlockRing.ring over taken _ (length bs) T-is ok.long
+          ∙ decipher_is k key ℓ (sector_tweak k.ring s) bs g.C.Ring.BlockRing.ring over taken _ (length bs) T-is ok.long
           ∙ sym (ciphered_is k.ring key ℓ bs ok (λ key size. decipher_sector k key size s) o none);
     }

@@ -52,6 +52,6 @@ returns g c =
       answer = c.in-ok-admit-with-tweak.ensures.answer;
       buffer_is_deciphered =
           c.decipher.ensures
-          ∙ decipher_is k key ℓ tweak bs g.Ring.BlockRing.ring over taken _ (length bs) T-is ok.long
+          ∙ decipher_is k key ℓ tweak bs g.C.Ring.BlockRing.ring over taken _ (length bs) T-is ok.long
           ∙ sym (ciphered_is k.ring key ℓ bs ok (λ key size. decipher k key size tweak) (or_tweak k.ring tweak o) free);
     }

@@ -45,6 +45,6 @@ returns g c =
       answer = c.in-ok-admit.ensures.answer;
       buffer_is_enciphered =
           c.encipher.ensures
-          ∙ encipher_is k key ℓ (sector_tweak k.ring s) bs g.Ring.BlockRing.ring over taken _ (length bs) T-is ok.long
+          ∙ encipher_is k key ℓ (sector_tweak k.ring s) bs g.C.Ring.BlockRing.ring over taken _ (length bs) T-is ok.long
           ∙ sym (ciphered_is k.ring key ℓ bs ok (λ key size. encipher_sector k key size s) o none);
     }

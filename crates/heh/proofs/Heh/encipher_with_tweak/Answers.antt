@@ -52,6 +52,6 @@ returns g c =
       answer = c.in-ok-admit-with-tweak.ensures.answer;
       buffer_is_enciphered =
           c.encipher.ensures
-          ∙ encipher_is k key ℓ tweak bs g.Ring.BlockRing.ring over taken _ (length bs) T-is ok.long
+          ∙ encipher_is k key ℓ tweak bs g.C.Ring.BlockRing.ring over taken _ (length bs) T-is ok.long
           ∙ sym (ciphered_is k.ring key ℓ bs ok (λ key size. encipher k key size tweak) (or_tweak k.ring tweak o) free);
     }

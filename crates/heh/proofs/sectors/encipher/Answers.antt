@@ -9,7 +9,7 @@ use Rattle.heh.proofs.sectors.encipher.Goals as goal
 
 pub returns : goal.returns
 returns g c =
-    let m = g.Ring.BlockRing in
+    let m = g.C.Ring.BlockRing in
     let r = m.ring in
     let k = g.C.BlockCipher.kind in
     let key = g.C.BlockCipher.held c.args.cipher.now in
@@ -21,7 +21,7 @@ returns g c =
     subst (λ (r : RingKind). (x : ℕ) → x < size r → f x < size r) g.met.C.BlockCipher.over (λ x l. k.encipher_block key x (g.C.BlockCipher.fitting c.args.cipher.now) l) in
     let made = c.tweak-key-key.result in
     let is = c.tweak-key-key.ensures in
-    wrapped_steps r f low (m.value made.tau) (m.value made.beta1) (m.value made.beta2) (g.met.Ring.BlockRing.below made.beta1)
+    wrapped_steps r f low (m.value made.tau) (m.value made.beta1) (m.value made.beta2) (g.met.C.Ring.BlockRing.below made.beta1)
     bs c.forward.new.sector c.encipher-each.new.sector c.back.new.sector
     under (size_parts r (length bs) c.requires) c.forward.ensures c.encipher-each.ensures.blocks_are_enciphered c.back.ensures
     ∙ ap (λ (τ : ℕ). rowwise r.width (on_blocks (wrapped r f τ (m.value made.beta1) (m.value made.beta2))) bs) is.tau

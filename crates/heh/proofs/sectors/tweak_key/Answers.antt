@@ -7,7 +7,7 @@ use Rattle.heh.proofs.sectors.tweak_key.Goals as goal
 
 pub returns : goal.returns
 returns g c =
-    let m = g.Ring.BlockRing in
+    let m = g.C.Ring.BlockRing in
     let r = m.ring in
     let E = g.C.BlockCipher.kind.encipher (g.C.BlockCipher.held c.args.cipher.now) in
     let ℓ = c.args.size in
@@ -18,5 +18,5 @@ returns g c =
     record {
       tau = τ_is;
       beta1 = β1_is;
-      beta2 = c.times_alpha.ensures ∙ sym (times_blocks r 2 β1 (alpha_below r) (g.met.Ring.BlockRing.below c.encipher-2.new.block)) ∙ ap (times r 2) β1_is;
+      beta2 = c.times_alpha.ensures ∙ sym (times_blocks r 2 β1 (alpha_below r) (g.met.C.Ring.BlockRing.below c.encipher-2.new.block)) ∙ ap (times r 2) β1_is;
     }

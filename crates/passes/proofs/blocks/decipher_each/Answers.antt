@@ -17,11 +17,11 @@ slice_bounds-part-end g c = let h = block_inside c.loop-i.i (length c.args.secto
 pub loop-i-init : goal.loop-i-init
 loop-i-init g c =
     let f = g.C.BlockCipher.kind.decipher (g.C.BlockCipher.held c.args.cipher.now) in
-    each_none g.Ring.BlockRing.ring.width (λ _ x. f x) c.args.sector.now
+    each_none g.C.Ring.BlockRing.ring.width (λ _ x. f x) c.args.sector.now
 
 pub loop-i-preserved : goal.loop-i-preserved
 loop-i-preserved g c =
-    let m = g.Ring.BlockRing in
+    let m = g.C.Ring.BlockRing in
     let v = c.width-w.result in
     let i = c.loop-i.i in
     let bs = c.args.sector.now in
@@ -35,7 +35,7 @@ loop-i-preserved g c =
 
 pub returns : goal.returns
 returns g c =
-    let w = g.Ring.BlockRing.ring.width in
+    let w = g.C.Ring.BlockRing.ring.width in
     let bs = c.args.sector.now in
     let n = length bs in
     let f = g.C.BlockCipher.kind.decipher (g.C.BlockCipher.held c.args.cipher.now) in

@@ -25,7 +25,7 @@ returns-in-default g c =
 
 pub returns : goal.returns
 returns g c =
-    let m = g.Ring.BlockRing in
+    let m = g.C.Ring.BlockRing in
     let k = g.C.BlockCipher.kind in
     let first = c.args.self.now.first in
     let second = c.args.self.now.second in

@@ -40,8 +40,8 @@ returns-then-size-width g c =
     let bad : size_fit k.ring n ≡ false =
     ap (λ r. size_fit r n) over
     ∙ elim c.then-size-width.branch [
-      | then-size-width-via-then-size-width w ↦ too_small g.Ring.BlockRing.ring n (omega (arith, w.if-size-width.true, c.width.ensures))
-      | then-size-width-via-else-size-width+then-longest-size w ↦ too_large g.Ring.BlockRing.ring n (omega (arith, w.if-longest-size.true, w.longest.ensures))
+      | then-size-width-via-then-size-width w ↦ too_small g.C.Ring.BlockRing.ring n (omega (arith, w.if-size-width.true, c.width.ensures))
+      | then-size-width-via-else-size-width+then-longest-size w ↦ too_large g.C.Ring.BlockRing.ring n (omega (arith, w.if-longest-size.true, w.longest.ensures))
     ] in
     let why : refusal k key n ≡ Some WrongSize = size_refused k key n good1 good2 bad in
     record {
@@ -58,7 +58,7 @@ returns-in-default g c =
     let over = g.met.C.BlockCipher.over in
     let good1 : fits k (first_key key) ≡ true = ap (λ i. fits k (take i key)) (sym (sub-zero (length key / 2))) ∙ taken _ c.in-ok-set-key.ensures.answer in
     let good2 : fits k (second_key key) ≡ true = ap (fits k) (sym (take_rest key (length key / 2))) ∙ taken _ c.in-ok-set-key-2.ensures.answer in
-    let fit = ap (λ r. size_fit r n) over ∙ size_fit g.Ring.BlockRing.ring n (omega (arith, c.if-size-width.false, c.width.ensures)) (omega (arith, c.if-longest-size.false, c.longest.ensures)) in
+    let fit = ap (λ r. size_fit r n) over ∙ size_fit g.C.Ring.BlockRing.ring n (omega (arith, c.if-size-width.false, c.width.ensures)) (omega (arith, c.if-longest-size.false, c.longest.ensures)) in
     let fit1 = taken _ c.in-ok-set-key.ensures.answer in
     let key1 : held c.set-key.new.self ≡ first_key key = c.in-ok-set-key.ensures.key_is_held ∙ cond-true _ _ _ fit1 ∙ ap (λ i. take i key) (sub-zero (length key / 2)) in
     let none : hash_key k.ring (k.encipher (first_key key)) n ≡ None =
@@ -82,7 +82,7 @@ returns g c =
     let good2 : fits k (second_key key) ≡ true = ap (fits k) (sym (take_rest key (length key / 2))) ∙ fit2 in
     let key1 : held c.set-key.new.self ≡ first_key key = c.in-ok-set-key.ensures.key_is_held ∙ cond-true _ _ _ fit1 ∙ ap (λ i. take i key) (sub-zero (length key / 2)) in
     let key2 : held c.set-key-2.new.self ≡ second_key key = c.in-ok-set-key-2.ensures.key_is_held ∙ cond-true _ _ _ fit2 ∙ take_rest key (length key / 2) in
-    let h = key_of g.Ring.BlockRing.value c.in-Some.field-0 in
+    let h = key_of g.C.Ring.BlockRing.value c.in-Some.field-0 in
     let is : hash_key k.ring (k.encipher (first_key key)) n ≡ Some h =
     ap (λ a. hash_key k.ring (k.encipher a) n) (sym key1) ∙ ap (λ r. hash_key r (k.encipher (held c.set-key.new.self)) n) over ∙ sym c.in-Some.ensures.hash_key in
     let free = not_refused k key n good1 good2 h is in

@@ -10,13 +10,13 @@ overflow-sub-part g c =
     let w = c.width-w.result in
     let n = length c.args.sector.now in
     let e = c.width-w.ensures in
-    let some : 1 ≤ w = omega (arith, g.Ring.BlockRing.ring.some) in
+    let some : 1 ≤ w = omega (arith, g.C.Ring.BlockRing.ring.some) in
     let one : 1 ≤ n / w = le-div 1 n w some (omega (arith, c.requires)) in
     omega (arith, mul-le-mul_right w one)
 
 pub returns-then-whole-sector : goal.returns-then-whole-sector
 returns-then-whole-sector g c =
-    let m = g.Ring.BlockRing in
+    let m = g.C.Ring.BlockRing in
     let k = g.C.BlockCipher in
     let key = k.held c.args.cipher.now in
     let f = k.kind.decipher key in
@@ -36,4 +36,4 @@ returns-else-whole-sector g c =
     let bs = c.args.sector.now in
     let same : length c.decipher-each.new.sector ≡ length bs = search rules in
     c.decipher-each.ensures.blocks_are_deciphered
-    ∙ crypted_else g.Ring.BlockRing.ring (k.kind.decipher (k.held c.args.cipher.now)) bs c.width-w.result c.width-w.ensures (omega arith)
+    ∙ crypted_else g.C.Ring.BlockRing.ring (k.kind.decipher (k.held c.args.cipher.now)) bs c.width-w.result c.width-w.ensures (omega arith)

@@ -14,7 +14,7 @@ use Rattle.tet.proofs.stages.encipher_sector.Goals as goal
 
 pub returns : goal.returns
 returns g c =
-    let m = g.Ring.BlockRing in
+    let m = g.C.Ring.BlockRing in
     let r = m.ring in
     let k = g.C.BlockCipher in
     let key = k.held c.args.cipher.now in

@@ -16,13 +16,13 @@ slice-bounds-from-bytes-end g c =
 
 pub loop-i-init : goal.loop-i-init
 loop-i-init g c =
-    let r = g.Ring.BlockRing.ring in
+    let r = g.C.Ring.BlockRing.ring in
     let E = g.C.BlockCipher.kind.encipher (g.C.BlockCipher.held c.args.cipher.now) in
     c.zero-v.ensures ∙ sym (ap (chained r E 0) (blocks_none r.width c.args.tweak.now) ∙ chained_none r E 0)
 
 pub loop-i-preserved : goal.loop-i-preserved
 loop-i-preserved g c =
-    let m = g.Ring.BlockRing in
+    let m = g.C.Ring.BlockRing in
     let w = m.ring.width in
     let E = g.C.BlockCipher.kind.encipher (g.C.BlockCipher.held c.args.cipher.now) in
     let v = c.width-w.result in

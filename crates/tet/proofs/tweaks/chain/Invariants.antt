@@ -5,6 +5,6 @@ use Rattle.tet.proofs.tweaks.chain.Given as goal
 
 abbrev pub invariant-loop-i : goal.invariant-loop-i
 invariant-loop-i g l =
-    let m = g.Ring.BlockRing in
+    let m = g.C.Ring.BlockRing in
     let k = g.C.BlockCipher in
     m.value l.v ≡ chained m.ring (k.kind.encipher (k.held l.cipher)) 0 (first_blocks m.ring.width l.i l.tweak)

@@ -8,8 +8,8 @@ use Rattle.tet.proofs.tweaks.last_step.Goals as goal
 
 pub returns-then-end-width : goal.returns-then-end-width
 returns-then-end-width g c =
-    let m = g.Ring.BlockRing in
-    let below = g.met.Ring.BlockRing.below in
+    let m = g.C.Ring.BlockRing in
+    let below = g.met.C.Ring.BlockRing.below in
     let E = g.C.BlockCipher.kind.encipher (g.C.BlockCipher.held c.args.cipher.now) in
     let x = m.value c.args.x in
     let v = m.value c.args.v in
@@ -23,8 +23,8 @@ returns-then-end-width g c =
 
 pub returns : goal.returns
 returns g c =
-    let m = g.Ring.BlockRing in
-    let below = g.met.Ring.BlockRing.below in
+    let m = g.C.Ring.BlockRing in
+    let below = g.met.C.Ring.BlockRing.below in
     let E = g.C.BlockCipher.kind.encipher (g.C.BlockCipher.held c.args.cipher.now) in
     let x = m.value c.args.x in
     let v = m.value c.args.v in

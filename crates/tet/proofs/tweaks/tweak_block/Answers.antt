@@ -8,14 +8,14 @@ use Rattle.tet.proofs.tweaks.tweak_block.Goals as goal
 
 pub chain-v-requires : goal.chain-v-requires
 chain-v-requires g c =
-    let w = g.Ring.BlockRing.ring.width in
+    let w = g.C.Ring.BlockRing.ring.width in
     let n = length c.args.tweak.now in
     let same : c.saturating-sub.result / c.width-w.result * w ≡ (n - 1) / w * w = ap₂ (λ (a b : ℕ). a / b * w) c.saturating-sub.ensures c.width-w.ensures in
     omega (arith, same, ahead_fits n w)
 
 pub returns : goal.returns
 returns g c =
-    let m = g.Ring.BlockRing in
+    let m = g.C.Ring.BlockRing in
     let w = m.ring.width in
     let E = g.C.BlockCipher.kind.encipher (g.C.BlockCipher.held c.args.cipher.now) in
     let bs = c.args.tweak.now in
