@@ -17,19 +17,19 @@ fn read_into<D: SectorDevice, M: WideMode>(
     sector: u32,
     buffer: &mut Vec<u8>,
 ) -> Result<(), Fault>
-    ensures call_is_answered { result ≡ answer (volume_of kind (view meaning state volume.old)) sector (length buffer.old.items) }
-    ensures volume_stays { view meaning state volume.new ≡ view meaning state volume.old }
+    ensures call_is_answered { result ≡ answer (volume_of M.kind (view D.meaning M.state volume.old)) sector (length buffer.old.items) }
+    ensures volume_stays { view D.meaning M.state volume.new ≡ view D.meaning M.state volume.old }
     ensures length_stays { length buffer.new.items ≡ length buffer.old.items }
-    ensures buffer_is_filled { buffer.new.items ≡ after_read (volume_of kind (view meaning state volume.old)) sector buffer.old.items }
+    ensures buffer_is_filled { buffer.new.items ≡ after_read (volume_of M.kind (view D.meaning M.state volume.old)) sector buffer.old.items }
 {
     volume.read(sector, buffer.as_mut_slice())
 }
 
 /// Makes the call of the entry, and puts its answer there.
 fn make<D: SectorDevice, M: WideMode>(volume: &mut Volume<D, M>, entry: &mut Entry)
-    ensures call_is_answered { line entry.new ≡ answered kind (view meaning state volume.old) (line entry.old) }
-    ensures call_is_noted { (h : History) → noted (line entry.new) h ≡ event kind (view meaning state volume.old) (call_of (line entry.old)) ∷ h }
-    ensures call_is_made { view meaning state volume.new ≡ after kind (view meaning state volume.old) (call_of (line entry.old)) }
+    ensures call_is_answered { line entry.new ≡ answered M.kind (view D.meaning M.state volume.old) (line entry.old) }
+    ensures call_is_noted { (h : History) → noted (line entry.new) h ≡ event M.kind (view D.meaning M.state volume.old) (call_of (line entry.old)) ∷ h }
+    ensures call_is_made { view D.meaning M.state volume.new ≡ after M.kind (view D.meaning M.state volume.old) (call_of (line entry.old)) }
 {
     match entry {
         Entry::Open { key, answer } => *answer = Some(volume.open(key)),
@@ -52,10 +52,10 @@ fn make<D: SectorDevice, M: WideMode>(volume: &mut Volume<D, M>, entry: &mut Ent
 /// Makes the calls of a script on a volume in their order, and puts each answer into its entry. The law holds of the volume
 /// before and after, with the calls and answers of the script in its history.
 pub fn perform<D: SectorDevice, M: WideMode>(volume: &mut Volume<D, M>, script: &mut [Entry])
-    ensures law_is_upheld { UpheldOn kind (view meaning state volume.old) (recorded script.new) (view meaning state volume.new).device }
-    ensures answers_are_recorded { (h : History) → recorded script.new h ≡ history kind (view meaning state volume.old) (calls script.old) h }
-    ensures entries_are_answered { map line script.new ≡ played kind (view meaning state volume.old) script.old }
-    ensures calls_are_made { view meaning state volume.new ≡ run kind (view meaning state volume.old) (calls script.old) }
+    ensures law_is_upheld { UpheldOn M.kind (view D.meaning M.state volume.old) (recorded script.new) (view D.meaning M.state volume.new).device }
+    ensures answers_are_recorded { (h : History) → recorded script.new h ≡ history M.kind (view D.meaning M.state volume.old) (calls script.old) h }
+    ensures entries_are_answered { map line script.new ≡ played M.kind (view D.meaning M.state volume.old) script.old }
+    ensures calls_are_made { view D.meaning M.state volume.new ≡ run M.kind (view D.meaning M.state volume.old) (calls script.old) }
 {
     for entry in script.iter_mut() {
         make(volume, entry);
