@@ -35,7 +35,7 @@ once_push xs number once new i j lt h e =
     (cases_lt j (length xs))
 
 -- what `contains` answers
-pub contained : (xs : List ℕ) (number : ℕ) (r : Bool) → IsAnyAnswer (λ y t. Decides t (y ≡ number)) xs r → r ≡ is_held xs number
+pub contained : (xs : List ℕ) (number : ℕ) (r : Bool) → IsAnyAnswer (λ y t. eqb y number ≡ t) xs r → r ≡ is_held xs number
 contained xs number true s = let p = (contains_decides eqb Decides-eqb xs number true s).0 refl in sym (held_at xs number p.0 p.1 (p.2 0))
 contained xs number false s =
     ⊎_elim

@@ -40,9 +40,9 @@ impl<D: SectorDevice> FaultList<D> {
 
     /// Gives a sector its standing fault. A number that is held already is accepted.
     pub fn enter(&mut self, sector: u32) -> Result<(), EnterRefusal>
-        ensures call_is_answered { result ≡ enter_answer (length (meaning self.old.device).sectors) (held_by self.old.table) sector }
-        ensures number_is_entered { held_by self.new.table ≡ after_enter (length (meaning self.old.device).sectors) (held_by self.old.table) sector }
-        ensures device_below_stays { meaning self.new.device ≡ meaning self.old.device }
+        ensures call_is_answered { result ≡ enter_answer (length (D.meaning self.old.device).sectors) (held_by self.old.table) sector }
+        ensures number_is_entered { held_by self.new.table ≡ after_enter (length (D.meaning self.old.device).sectors) (held_by self.old.table) sector }
+        ensures device_below_stays { D.meaning self.new.device ≡ D.meaning self.old.device }
     {
         if sector >= self.device.count() {
             return Err(EnterRefusal::NoSuchSector);

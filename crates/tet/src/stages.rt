@@ -14,7 +14,7 @@ use rings::sums::hash_sum;
 
 /// X_i + H(τ;X)·(1/σ) + p
 fn blend<R: BlockRing>(hash: Hash<R>, sector: &mut [u8])
-    ensures { sector.new ≡ rowwise ring.width (blended ring (key_of value hash)) sector.old }
+    ensures { sector.new ≡ rowwise R.ring.width (blended R.ring (key_of R.value hash)) sector.old }
 {
     let sum = hash_sum(hash.tau, sector)
         .multiply(hash.inverse)
@@ -24,7 +24,7 @@ fn blend<R: BlockRing>(hash: Hash<R>, sector: &mut [u8])
 
 /// X_i + H(τ;X) + σ·p
 fn unblend<R: BlockRing>(hash: Hash<R>, sector: &mut [u8])
-    ensures { sector.new ≡ rowwise ring.width (unblended ring (key_of value hash)) sector.old }
+    ensures { sector.new ≡ rowwise R.ring.width (unblended R.ring (key_of R.value hash)) sector.old }
 {
     let sum = hash_sum(hash.tau, sector).add(hash.sigma.multiply(tail_block(sector)));
     add_to_each(sum, sector);

@@ -20,7 +20,7 @@ decipher-requires g c =
     let bs = c.args.buffer.now in
     let o = obstacle (keyed_with k.ring key ℓ) bs in
     let tweak = c.args.tweak.now in
-    let free = accepted (or_tweak k.ring tweak o) c.in-ok-admit-with-tweak.ensures.answer in
+    let free = accepted (or_tweak k.ring tweak o) c.in_ok-admit_with_tweak.ensures.answer in
     let both = tweak_admitted k.ring tweak o free in
     let ok = admitted k.ring key ℓ bs both.0 in
     ap (λ (r : RingKind). size_fit r (length bs)) (sym g.met.C.BlockCipher.over) ∙ ap (size_fit k.ring) ok.long ∙ ok.fit
@@ -34,14 +34,14 @@ returns g c =
     let bs = c.args.buffer.now in
     let o = obstacle (keyed_with k.ring key ℓ) bs in
     let tweak = c.args.tweak.now in
-    let free = accepted (or_tweak k.ring tweak o) c.in-ok-admit-with-tweak.ensures.answer in
+    let free = accepted (or_tweak k.ring tweak o) c.in_ok-admit_with_tweak.ensures.answer in
     let both = tweak_admitted k.ring tweak o free in
     let ok = admitted k.ring key ℓ bs both.0 in
     let over = g.met.C.BlockCipher.over in
     let bytes_low : (i : ℕ) → get_or bs i 0 < 256 = search rules in
     let tweak_low : (i : ℕ) → get_or tweak i 0 < 256 = search rules in
     let tweak_row = row_is k.ring.width tweak both.1 (All-from_get_or (λ (d : ℕ). d < 256) tweak 0 (λ i _. tweak_low i)) in
-    let T-is = c.from-bytes.ensures ∙ ap (λ (r : RingKind). number_from_digits 256 tweak % size r) (sym over) ∙ tweak_block k.ring tweak tweak_row in
+    let T-is = c.from_bytes.ensures ∙ ap (λ (r : RingKind). number_from_digits 256 tweak % size r) (sym over) ∙ tweak_block k.ring tweak tweak_row in
     let taken : Taken k key ℓ tweak bs = record {
       key_fit = g.C.BlockCipher.fitting self.cipher;
       size_fit = ok.fit;
@@ -49,7 +49,7 @@ returns g c =
       bytes_row = row_is ℓ bs ok.long (All-from_get_or (λ (d : ℕ). d < 256) bs 0 (λ i _. bytes_low i));
     } in
     record {
-      answer = c.in-ok-admit-with-tweak.ensures.answer;
+      answer = c.in_ok-admit_with_tweak.ensures.answer;
       buffer_is_deciphered =
           c.decipher.ensures
           ∙ decipher_is k key ℓ tweak bs g.C.Ring.BlockRing.ring over taken _ (length bs) T-is ok.long

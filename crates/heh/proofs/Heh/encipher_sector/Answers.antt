@@ -18,7 +18,7 @@ encipher-requires g c =
     let ℓ = self.size in
     let bs = c.args.buffer.now in
     let o = obstacle (keyed_with k.ring key ℓ) bs in
-    let ok = admitted k.ring key ℓ bs (accepted o c.in-ok-admit.ensures.answer) in
+    let ok = admitted k.ring key ℓ bs (accepted o c.in_ok-admit.ensures.answer) in
     ap (λ (r : RingKind). size_fit r (length bs)) (sym g.met.C.BlockCipher.over) ∙ ap (size_fit k.ring) ok.long ∙ ok.fit
 
 pub returns : goal.returns
@@ -31,10 +31,10 @@ returns g c =
     let o = obstacle (keyed_with k.ring key ℓ) bs in
     let s = c.args.number in
     let over = g.met.C.BlockCipher.over in
-    let none = accepted o c.in-ok-admit.ensures.answer in
+    let none = accepted o c.in_ok-admit.ensures.answer in
     let ok = admitted k.ring key ℓ bs none in
     let bytes_low : (i : ℕ) → get_or bs i 0 < 256 = search rules in
-    let T-is = c.from-number.ensures ∙ ap (λ (r : RingKind). s % size r) (sym over) ∙ sector_block k.ring s in
+    let T-is = c.from_number.ensures ∙ ap (λ (r : RingKind). s % size r) (sym over) ∙ sector_block k.ring s in
     let taken : Taken k key ℓ (sector_tweak k.ring s) bs = record {
       key_fit = g.C.BlockCipher.fitting self.cipher;
       size_fit = ok.fit;
@@ -42,7 +42,7 @@ returns g c =
       bytes_row = row_is ℓ bs ok.long (All-from_get_or (λ (d : ℕ). d < 256) bs 0 (λ i _. bytes_low i));
     } in
     record {
-      answer = c.in-ok-admit.ensures.answer;
+      answer = c.in_ok-admit.ensures.answer;
       buffer_is_enciphered =
           c.encipher.ensures
           ∙ encipher_is k key ℓ (sector_tweak k.ring s) bs g.C.Ring.BlockRing.ring over taken _ (length bs) T-is ok.long

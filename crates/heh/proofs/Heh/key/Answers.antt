@@ -17,7 +17,7 @@ returns-then-not-takes g c =
     let k = g.C.BlockCipher.kind in
     let key = c.args.key.now in
     let ℓ = c.args.size in
-    let good = taken (fits k key) c.in-ok-set-key.ensures.answer in
+    let good = taken (fits k key) c.in_ok-set_key.ensures.answer in
     let bad : size_fit k.ring ℓ ≡ false = ap (λ (r : RingKind). size_fit r ℓ) g.met.C.BlockCipher.over ∙ sym c.takes.ensures ∙ c.if-not-takes.true in
     let why = size_refused k key ℓ good bad in
     record {
@@ -30,10 +30,10 @@ returns g c =
     let k = g.C.BlockCipher.kind in
     let key = c.args.key.now in
     let ℓ = c.args.size in
-    let good = taken (fits k key) c.in-ok-set-key.ensures.answer in
+    let good = taken (fits k key) c.in_ok-set_key.ensures.answer in
     let fit : size_fit k.ring ℓ ≡ true = ap (λ (r : RingKind). size_fit r ℓ) g.met.C.BlockCipher.over ∙ sym c.takes.ensures ∙ c.if-not-takes.false in
     let free = not_refused k key ℓ good fit in
-    let key_is = c.in-ok-set-key.ensures.key_is_held ∙ cond-true (fits k key) key _ good in
+    let key_is = c.in_ok-set_key.ensures.key_is_held ∙ cond-true (fits k key) key _ good in
     record {
       answer = sym (ap answered free);
       pair_is_held =

@@ -21,10 +21,10 @@ returns g c =
     let y = m.value c.args.y in
     let β = m.value c.args.beta in
     let s = parted w bs in
-    let mid = c.add-to-each.new.sector in
+    let mid = c.add_to_each.new.sector in
     let ok = added_sound r (length bs / w) (length bs % w) y (below c.args.y) s (parted_sound r bs under) in
     let αβ : m.value c.times_alpha.result ≡ times r 2 β = c.times_alpha.ensures ∙ sym (times_blocks r 2 β (alpha_below r) (below c.args.beta)) in
     c.whiten.ensures.sector_is_whitened
     ∙ ap (λ (b : ℕ). rowwise w (whitened r b) mid) αβ
-    ∙ stage r (length bs / w) (length bs % w) (tail_short r (length bs)) mid (added y s) (whitened r (times r 2 β)) c.add-to-each.ensures.block_is_added ok
+    ∙ stage r (length bs / w) (length bs % w) (tail_short r (length bs)) mid (added y s) (whitened r (times r 2 β)) c.add_to_each.ensures.block_is_added ok
     ∙ ap (λ (xs : List ℕ). bytes w xs ++ s.tail) (offset_is r y β 0 s.blocks)

@@ -28,14 +28,14 @@ returns g c =
     let β = m.value c.args.beta in
     let xs = blocks w bs in
     let y = m.value c.add-y.result in
-    let y_is : y ≡ middle_back r β xs = c.add-y.ensures ∙ ap (λ (v : ℕ). bit_xor v β) (c.from-bytes.ensures ∙ last_is r bs under fit e at) in
+    let y_is : y ≡ middle_back r β xs = c.add-y.ensures ∙ ap (λ (v : ℕ). bit_xor v β) (c.from_bytes.ensures ∙ last_is r bs under fit e at) in
     let fs = offset r y β (front xs) in
     let long = length_placewise (offset_at r y β) 1 (front xs) ∙ length_ahead r bs under fit e at in
     let low = offset_low r y β (g.met.R.BlockRing.below c.add-y.result) (front xs) (All-take (λ (x : ℕ). x < size r) (length xs - 1) xs (blocks_below w (length bs / w) bs under)) in
-    let head = c.add-offsets.new.blocks in
-    let head_new = c.add-offsets.ensures ∙ head_is r bs under fit e at (offset r y β) in
+    let head = c.add_offsets.new.blocks in
+    let head_new = c.add_offsets.ensures ∙ head_is r bs under fit e at (offset r y β) in
     let x_is : m.value c.add.result ≡ bit_xor y (hash_sum r τ fs) =
-    c.add.ensures ∙ ap (bit_xor y) (c.hash-sum.ensures ∙ ap (hash_sum r τ) (head_read r bs under fit e at fs long head head_new low)) in
-    written r bs under fit e at fs long head head_new c.to-bytes.new.bytes (m.value c.add.result) c.to-bytes.ensures
+    c.add.ensures ∙ ap (bit_xor y) (c.hash_sum.ensures ∙ ap (hash_sum r τ) (head_read r bs under fit e at fs long head head_new low)) in
+    written r bs under fit e at fs long head head_new c.to_bytes.new.bytes (m.value c.add.result) c.to_bytes.ensures
     ∙ ap (λ (z : ℕ). bytes w (fs ++ (z ∷ [])) ++ drop (length bs / w * w) bs) x_is
     ∙ ap (λ (v : ℕ). bytes w (offset r v β (front xs) ++ (bit_xor v (hash_sum r τ (offset r v β (front xs))) ∷ [])) ++ drop (length bs / w * w) bs) y_is

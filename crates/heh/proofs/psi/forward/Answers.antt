@@ -25,11 +25,11 @@ returns g c =
     let β = m.value c.args.beta in
     let xs = blocks w bs in
     let y_is : m.value c.add-y.result ≡ middle r τ xs =
-    c.add-y.ensures ∙ ap₂ bit_xor (c.from-bytes.ensures ∙ last_is r bs under fit e at) (c.hash-sum.ensures ∙ ap (hash_sum r τ) (front_is r bs under fit e at)) in
+    c.add-y.ensures ∙ ap₂ bit_xor (c.from_bytes.ensures ∙ last_is r bs under fit e at) (c.hash_sum.ensures ∙ ap (hash_sum r τ) (front_is r bs under fit e at)) in
     let y = m.value c.add-y.result in
     let fs = offset r y β (front xs) in
     let z_is : m.value c.add.result ≡ bit_xor y β = c.add.ensures in
-    written r bs under fit e at fs (length_placewise (offset_at r y β) 1 (front xs) ∙ length_ahead r bs under fit e at) c.add-offsets.new.blocks
-    (c.add-offsets.ensures ∙ head_is r bs under fit e at (offset r y β))
-    c.to-bytes.new.bytes (m.value c.add.result) c.to-bytes.ensures
+    written r bs under fit e at fs (length_placewise (offset_at r y β) 1 (front xs) ∙ length_ahead r bs under fit e at) c.add_offsets.new.blocks
+    (c.add_offsets.ensures ∙ head_is r bs under fit e at (offset r y β))
+    c.to_bytes.new.bytes (m.value c.add.result) c.to_bytes.ensures
     ∙ ap₂ (λ (v z : ℕ). bytes w (offset r v β (front xs) ++ (z ∷ [])) ++ drop (length bs / w * w) bs) y_is (z_is ∙ ap (λ (v : ℕ). bit_xor v β) y_is)

@@ -19,10 +19,10 @@ returns g c =
     let under = All-from_get_or (λ (d : ℕ). d < 256) bs 0 (λ i _. bytes_low i) in
     let low : (x : ℕ) → x < size r → f x < size r =
     subst (λ (r : RingKind). (x : ℕ) → x < size r → f x < size r) g.met.C.BlockCipher.over (λ x l. k.encipher_block key x (g.C.BlockCipher.fitting c.args.cipher.now) l) in
-    let made = c.tweak-key-key.result in
-    let is = c.tweak-key-key.ensures in
+    let made = c.tweak_key-key.result in
+    let is = c.tweak_key-key.ensures in
     wrapped_steps r f low (m.value made.tau) (m.value made.beta1) (m.value made.beta2) (g.met.C.Ring.BlockRing.below made.beta1)
-    bs c.forward.new.sector c.encipher-each.new.sector c.back.new.sector
-    under (size_parts r (length bs) c.requires) c.forward.ensures c.encipher-each.ensures.blocks_are_enciphered c.back.ensures
+    bs c.forward.new.sector c.encipher_each.new.sector c.back.new.sector
+    under (size_parts r (length bs) c.requires) c.forward.ensures c.encipher_each.ensures.blocks_are_enciphered c.back.ensures
     ∙ ap (λ (τ : ℕ). rowwise r.width (on_blocks (wrapped r f τ (m.value made.beta1) (m.value made.beta2))) bs) is.tau
     ∙ ap₂ (λ (β β' : ℕ). rowwise r.width (on_blocks (wrapped r f (k.encipher key (m.value c.args.tweak)) β β')) bs) is.beta1 is.beta2

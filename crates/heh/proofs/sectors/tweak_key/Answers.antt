@@ -12,7 +12,7 @@ returns g c =
     let E = g.C.BlockCipher.kind.encipher (g.C.BlockCipher.held c.args.cipher.now) in
     let ℓ = c.args.size in
     let τ_is = c.encipher.ensures.block_is_enciphered in
-    let L-is : m.value c.from-number.result ≡ 8 * ℓ = c.from-number.ensures ∙ mod-eq_of_lt (length_block r ℓ c.requires) in
+    let L-is : m.value c.from_number.result ≡ 8 * ℓ = c.from_number.ensures ∙ mod-eq_of_lt (length_block r ℓ c.requires) in
     let β1 = m.value c.encipher-2.new.block in
     let β1_is = c.encipher-2.ensures.block_is_enciphered ∙ ap E (c.add-beta1.ensures ∙ ap₂ bit_xor τ_is L-is) in
     record {

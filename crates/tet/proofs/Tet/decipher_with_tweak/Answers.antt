@@ -5,8 +5,8 @@ use Rattle.tet_theory.specs.Tet.{deciphered, hash_key, beta, decipher}
 use Rattle.tet_theory.proofs.States.{blank_answer, blank_buffer, done_answer, done_decipher}
 use Rattle.tet.proofs.Tet.decipher_with_tweak.Goals as goal
 
-pub returns-in-default : goal.returns-in-default
-returns-in-default g c =
+pub returns-in_default : goal.returns-in_default
+returns-in_default g c =
     let k = g.C.BlockCipher.kind in
     let first = c.args.self.now.first in
     let second = c.args.self.now.second in
@@ -17,7 +17,7 @@ returns-in-default g c =
     let n = c.args.self.now.size in
     let tweak = c.args.tweak.now in
     let bs = c.args.buffer.now in
-    let is : hash_key k.ring (k.encipher K1) n ≡ None = ap (λ r. hash_key r (k.encipher K1) n) g.met.C.BlockCipher.over ∙ sym c.in-default.ensures.hash_key in
+    let is : hash_key k.ring (k.encipher K1) n ≡ None = ap (λ r. hash_key r (k.encipher K1) n) g.met.C.BlockCipher.over ∙ sym c.in_default.ensures.hash_key in
     record {
       answer = sym (blank_answer k K1 K2 good1 good2 n tweak bs is);
       buffer_is_deciphered = sym (blank_buffer k K1 K2 good1 good2 n tweak bs (λ key size. decipher k key size tweak) is);
@@ -40,10 +40,10 @@ returns g c =
     let h = key_of m.value c.in-Some.hash in
     let is : hash_key k.ring (k.encipher K1) n ≡ Some h = ap (λ r. hash_key r (k.encipher K1) n) over ∙ sym c.in-Some.ensures.hash_key in
     record {
-      answer = sym (done_answer k K1 K2 good1 good2 n tweak bs h is c.if-buffer-self.false c.if-tweak-gt-LONGEST-TWEAK.false);
+      answer = sym (done_answer k K1 K2 good1 good2 n tweak bs h is c.if-buffer-self.false c.if-tweak-gt-LONGEST_TWEAK.false);
       buffer_is_deciphered =
-          c.decipher-sector.ensures
-          ∙ ap (λ β. rowwise m.ring.width (deciphered m.ring (k.decipher K2) h β) bs) c.tweak-block-beta.ensures
+          c.decipher_sector.ensures
+          ∙ ap (λ β. rowwise m.ring.width (deciphered m.ring (k.decipher K2) h β) bs) c.tweak_block-beta.ensures
           ∙ ap (λ r. rowwise r.width (deciphered r (k.decipher K2) h (beta r (k.encipher K1) n tweak)) bs) (sym over)
-          ∙ done_decipher k K1 K2 good1 good2 n tweak bs h is c.if-buffer-self.false c.if-tweak-gt-LONGEST-TWEAK.false;
+          ∙ done_decipher k K1 K2 good1 good2 n tweak bs h is c.if-buffer-self.false c.if-tweak-gt-LONGEST_TWEAK.false;
     }

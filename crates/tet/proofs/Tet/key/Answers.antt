@@ -17,13 +17,13 @@ use Rattle.tet_theory.proofs.States.{too_small, too_large, second_refused, size_
 use Rattle.tet.proofs.Tet.key.Goals as goal
 use Rattle.tet.proofs.Tet.key.Goals.{then-size-width-via-then-size-width, then-size-width-via-else-size-width+then-longest-size}
 
-pub returns-in-err-set-key-2 : goal.returns-in-err-set-key-2
-returns-in-err-set-key-2 g c =
+pub returns-in_err-set_key-2 : goal.returns-in_err-set_key-2
+returns-in_err-set_key-2 g c =
     let k = g.C.BlockCipher.kind in
     let key = c.args.key.now in
-    let bad : fits k (second_key key) ≡ false = ap (fits k) (sym (take_rest key (length key / 2))) ∙ turned _ _ c.in-err-set-key-2.ensures.answer in
+    let bad : fits k (second_key key) ≡ false = ap (fits k) (sym (take_rest key (length key / 2))) ∙ turned _ _ c.in_err-set_key-2.ensures.answer in
     let why : refusal k key c.args.size ≡ Some (Key WrongKeyLength) = second_refused k key c.args.size bad in
-    let said : c.from-residual-in-err-set-key-2.result ≡ Err (Key WrongKeyLength) = search rules in
+    let said : c.from_residual-in_err-set_key-2.result ≡ Err (Key WrongKeyLength) = search rules in
     record {
       answer = said ∙ sym (ap answered why);
       pair_is_held = sym (ap (λ o. keyed_after o key c.args.size (tet_state k g.C.BlockCipher.held c.args.self.now)) why);
@@ -35,8 +35,8 @@ returns-then-size-width g c =
     let key = c.args.key.now in
     let n = c.args.size in
     let over = g.met.C.BlockCipher.over in
-    let good1 : fits k (first_key key) ≡ true = ap (λ i. fits k (take i key)) (sym (sub-zero (length key / 2))) ∙ taken _ c.in-ok-set-key.ensures.answer in
-    let good2 : fits k (second_key key) ≡ true = ap (fits k) (sym (take_rest key (length key / 2))) ∙ taken _ c.in-ok-set-key-2.ensures.answer in
+    let good1 : fits k (first_key key) ≡ true = ap (λ i. fits k (take i key)) (sym (sub-zero (length key / 2))) ∙ taken _ c.in_ok-set_key.ensures.answer in
+    let good2 : fits k (second_key key) ≡ true = ap (fits k) (sym (take_rest key (length key / 2))) ∙ taken _ c.in_ok-set_key-2.ensures.answer in
     let bad : size_fit k.ring n ≡ false =
     ap (λ r. size_fit r n) over
     ∙ elim c.then-size-width.branch [
@@ -49,20 +49,20 @@ returns-then-size-width g c =
       pair_is_held = sym (ap (λ o. keyed_after o key n (tet_state k g.C.BlockCipher.held c.args.self.now)) why);
     }
 
-pub returns-in-default : goal.returns-in-default
-returns-in-default g c =
+pub returns-in_default : goal.returns-in_default
+returns-in_default g c =
     let k = g.C.BlockCipher.kind in
     let held = g.C.BlockCipher.held in
     let key = c.args.key.now in
     let n = c.args.size in
     let over = g.met.C.BlockCipher.over in
-    let good1 : fits k (first_key key) ≡ true = ap (λ i. fits k (take i key)) (sym (sub-zero (length key / 2))) ∙ taken _ c.in-ok-set-key.ensures.answer in
-    let good2 : fits k (second_key key) ≡ true = ap (fits k) (sym (take_rest key (length key / 2))) ∙ taken _ c.in-ok-set-key-2.ensures.answer in
+    let good1 : fits k (first_key key) ≡ true = ap (λ i. fits k (take i key)) (sym (sub-zero (length key / 2))) ∙ taken _ c.in_ok-set_key.ensures.answer in
+    let good2 : fits k (second_key key) ≡ true = ap (fits k) (sym (take_rest key (length key / 2))) ∙ taken _ c.in_ok-set_key-2.ensures.answer in
     let fit = ap (λ r. size_fit r n) over ∙ size_fit g.C.Ring.BlockRing.ring n (omega (arith, c.if-size-width.false, c.width.ensures)) (omega (arith, c.if-longest-size.false, c.longest.ensures)) in
-    let fit1 = taken _ c.in-ok-set-key.ensures.answer in
-    let key1 : held c.set-key.new.self ≡ first_key key = c.in-ok-set-key.ensures.key_is_held ∙ cond-true _ _ _ fit1 ∙ ap (λ i. take i key) (sub-zero (length key / 2)) in
+    let fit1 = taken _ c.in_ok-set_key.ensures.answer in
+    let key1 : held c.set_key.new.self ≡ first_key key = c.in_ok-set_key.ensures.key_is_held ∙ cond-true _ _ _ fit1 ∙ ap (λ i. take i key) (sub-zero (length key / 2)) in
     let none : hash_key k.ring (k.encipher (first_key key)) n ≡ None =
-    ap (λ a. hash_key k.ring (k.encipher a) n) (sym key1) ∙ ap (λ r. hash_key r (k.encipher (held c.set-key.new.self)) n) over ∙ sym c.in-default.ensures.hash_key in
+    ap (λ a. hash_key k.ring (k.encipher a) n) (sym key1) ∙ ap (λ r. hash_key r (k.encipher (held c.set_key.new.self)) n) over ∙ sym c.in_default.ensures.hash_key in
     let why : refusal k key n ≡ Some NoInverse = hash_refused k key n good1 good2 fit none in
     record {
       answer = sym (ap answered why);
@@ -76,19 +76,19 @@ returns g c =
     let key = c.args.key.now in
     let n = c.args.size in
     let over = g.met.C.BlockCipher.over in
-    let fit1 = taken _ c.in-ok-set-key.ensures.answer in
-    let fit2 = taken _ c.in-ok-set-key-2.ensures.answer in
+    let fit1 = taken _ c.in_ok-set_key.ensures.answer in
+    let fit2 = taken _ c.in_ok-set_key-2.ensures.answer in
     let good1 : fits k (first_key key) ≡ true = ap (λ i. fits k (take i key)) (sym (sub-zero (length key / 2))) ∙ fit1 in
     let good2 : fits k (second_key key) ≡ true = ap (fits k) (sym (take_rest key (length key / 2))) ∙ fit2 in
-    let key1 : held c.set-key.new.self ≡ first_key key = c.in-ok-set-key.ensures.key_is_held ∙ cond-true _ _ _ fit1 ∙ ap (λ i. take i key) (sub-zero (length key / 2)) in
-    let key2 : held c.set-key-2.new.self ≡ second_key key = c.in-ok-set-key-2.ensures.key_is_held ∙ cond-true _ _ _ fit2 ∙ take_rest key (length key / 2) in
+    let key1 : held c.set_key.new.self ≡ first_key key = c.in_ok-set_key.ensures.key_is_held ∙ cond-true _ _ _ fit1 ∙ ap (λ i. take i key) (sub-zero (length key / 2)) in
+    let key2 : held c.set_key-2.new.self ≡ second_key key = c.in_ok-set_key-2.ensures.key_is_held ∙ cond-true _ _ _ fit2 ∙ take_rest key (length key / 2) in
     let h = key_of g.C.Ring.BlockRing.value c.in-Some.field-0 in
     let is : hash_key k.ring (k.encipher (first_key key)) n ≡ Some h =
-    ap (λ a. hash_key k.ring (k.encipher a) n) (sym key1) ∙ ap (λ r. hash_key r (k.encipher (held c.set-key.new.self)) n) over ∙ sym c.in-Some.ensures.hash_key in
+    ap (λ a. hash_key k.ring (k.encipher a) n) (sym key1) ∙ ap (λ r. hash_key r (k.encipher (held c.set_key.new.self)) n) over ∙ sym c.in-Some.ensures.hash_key in
     let free = not_refused k key n good1 good2 h is in
     record {
       answer = sym (ap answered free);
       pair_is_held =
-          now_held k key n good1 good2 h is (held c.set-key.new.self) (held c.set-key-2.new.self) key1 key2
+          now_held k key n good1 good2 h is (held c.set_key.new.self) (held c.set_key-2.new.self) key1 key2
           ∙ sym (ap (λ o. keyed_after o key n (tet_state k held c.args.self.now)) free);
     }

@@ -13,9 +13,9 @@ returns-in-Some g c =
     record {
       hash_key =
           hash_made m.ring (k.kind.encipher (k.held c.args.cipher.now)) n c.width-w.result (m.value c.zero-block.result) (m.value c.encipher.new.block)
-          (m.value c.times-alpha-tau.result) (m.value c.encipher-2.new.block) (m.value c.power-sum-sigma.result) _
+          (m.value c.times_alpha-tau.result) (m.value c.encipher-2.new.block) (m.value c.power_sum-sigma.result) _
           low high (g.met.C.Ring.BlockRing.below c.encipher.new.block) v_is c.zero-block.ensures c.encipher.ensures.block_is_enciphered
-          c.times-alpha-tau.ensures c.encipher-2.ensures.block_is_enciphered c.power-sum-sigma.ensures c.in-Some.ensures;
+          c.times_alpha-tau.ensures c.encipher-2.ensures.block_is_enciphered c.power_sum-sigma.ensures c.in-Some.ensures;
     }
 
 pub returns-in-None : goal.returns-in-None
@@ -29,7 +29,7 @@ returns-in-None g c =
     record {
       hash_key =
           hash_made m.ring (k.kind.encipher (k.held c.args.cipher.now)) n c.width-w.result (m.value c.zero-block.result) (m.value c.encipher.new.block)
-          (m.value c.times-alpha-tau.result) (m.value c.encipher-2.new.block) (m.value c.power-sum-sigma.result) _
+          (m.value c.times_alpha-tau.result) (m.value c.encipher-2.new.block) (m.value c.power_sum-sigma.result) _
           low high (g.met.C.Ring.BlockRing.below c.encipher.new.block) v_is c.zero-block.ensures c.encipher.ensures.block_is_enciphered
-          c.times-alpha-tau.ensures c.encipher-2.ensures.block_is_enciphered c.power-sum-sigma.ensures c.in-None.ensures;
+          c.times_alpha-tau.ensures c.encipher-2.ensures.block_is_enciphered c.power_sum-sigma.ensures c.in-None.ensures;
     }

@@ -16,7 +16,7 @@ returns g c =
     let τ = m.value c.args.hash.tau in
     let ι = m.value c.args.hash.inverse in
     let sum = hash_sum r τ (blocks r.width bs) in
-    let part = c.multiply.ensures ∙ ap (λ (x : ℕ). r.product x ι) c.hash-sum.ensures
+    let part = c.multiply.ensures ∙ ap (λ (x : ℕ). r.product x ι) c.hash_sum.ensures
     ∙ sym (times_blocks r sum ι (hash_sum_below r τ (blocks r.width bs)) (g.met.R.BlockRing.below c.args.hash.inverse)) in
-    c.add-to-each.ensures.block_is_added
-    ∙ ap (λ (v : ℕ). rowwise r.width (added v) bs) (c.add-sum.ensures ∙ ap₂ bit_xor part c.tail-block.ensures.tail_is_padded)
+    c.add_to_each.ensures.block_is_added
+    ∙ ap (λ (v : ℕ). rowwise r.width (added v) bs) (c.add-sum.ensures ∙ ap₂ bit_xor part c.tail_block.ensures.tail_is_padded)

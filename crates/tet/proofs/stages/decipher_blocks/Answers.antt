@@ -5,8 +5,8 @@ use Rattle.rings.specs.Ring.{size}
 use Rattle.tet.proofs.Ends.{crypted_then, crypted_else}
 use Rattle.tet.proofs.stages.decipher_blocks.Goals as goal
 
-pub overflow-sub-part : goal.overflow-sub-part
-overflow-sub-part g c =
+pub overflow_sub-part : goal.overflow_sub-part
+overflow_sub-part g c =
     let w = c.width-w.result in
     let n = length c.args.sector.now in
     let e = c.width-w.ensures in
@@ -26,14 +26,14 @@ returns-then-whole-sector g c =
     let closed : (x : ℕ) → x < size m.ring → f x < size m.ring =
     subst (λ r. (x : ℕ) → x < size r → f x < size r) g.met.C.BlockCipher.over (λ x l. k.kind.decipher_block key x (g.C.BlockCipher.fitting c.args.cipher.now) l) in
     crypted_then m.ring f bs closed under c.requires c.width-w.result c.width-w.ensures
-    c.decipher-each.new.sector c.to-bytes.new.bytes c.mix.new.tail (m.value c.from-bytes-middle.result) (m.value c.decipher.new.block)
-    c.decipher-each.ensures.blocks_are_deciphered c.if-whole-sector.true c.from-bytes-middle.ensures c.decipher.ensures.block_is_deciphered c.to-bytes.ensures
+    c.decipher_each.new.sector c.to_bytes.new.bytes c.mix.new.tail (m.value c.from_bytes-middle.result) (m.value c.decipher.new.block)
+    c.decipher_each.ensures.blocks_are_deciphered c.if-whole-sector.true c.from_bytes-middle.ensures c.decipher.ensures.block_is_deciphered c.to_bytes.ensures
     c.mix.ensures.tail_is_mixed
 
 pub returns-else-whole-sector : goal.returns-else-whole-sector
 returns-else-whole-sector g c =
     let k = g.C.BlockCipher in
     let bs = c.args.sector.now in
-    let same : length c.decipher-each.new.sector ≡ length bs = search rules in
-    c.decipher-each.ensures.blocks_are_deciphered
+    let same : length c.decipher_each.new.sector ≡ length bs = search rules in
+    c.decipher_each.ensures.blocks_are_deciphered
     ∙ crypted_else g.C.Ring.BlockRing.ring (k.kind.decipher (k.held c.args.cipher.now)) bs c.width-w.result c.width-w.ensures (omega arith)

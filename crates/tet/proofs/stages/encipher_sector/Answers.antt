@@ -41,6 +41,6 @@ returns g c =
     let o4 = whitened_sound r n t β s3 o3 in
     let e1 = c.blend.ensures in
     let e2 = c.whiten.ensures.sector_is_whitened ∙ stage r n t short c.blend.new.sector s1 (whitened r β) e1 o1 in
-    let e3 = c.encipher-blocks.ensures ∙ stage r n t short c.whiten.new.sector s2 (crypted r f) e2 o2 in
-    let e4 = c.whiten-2.ensures.sector_is_whitened ∙ stage r n t short c.encipher-blocks.new.sector s3 (whitened r β) e3 o3 in
+    let e3 = c.encipher_blocks.ensures ∙ stage r n t short c.whiten.new.sector s2 (crypted r f) e2 o2 in
+    let e4 = c.whiten-2.ensures.sector_is_whitened ∙ stage r n t short c.encipher_blocks.new.sector s3 (whitened r β) e3 o3 in
     c.blend-2.ensures ∙ stage r n t short c.whiten-2.new.sector s4 (blended r h) e4 o4

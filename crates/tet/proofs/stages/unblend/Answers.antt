@@ -13,8 +13,8 @@ returns g c =
     let below = g.met.R.BlockRing.below in
     let bs = c.args.sector.now in
     let σ = c.args.hash.sigma in
-    let p = c.tail-block.result in
+    let p = c.tail_block.result in
     let part = c.multiply.ensures ∙ sym (times_blocks r (m.value σ) (m.value p) (below σ) (below p))
-    ∙ ap (λ (x : ℕ). times r (m.value σ) x) c.tail-block.ensures.tail_is_padded in
-    c.add-to-each.ensures.block_is_added
-    ∙ ap (λ (v : ℕ). rowwise r.width (added v) bs) (c.add-sum.ensures ∙ ap₂ bit_xor c.hash-sum.ensures part)
+    ∙ ap (λ (x : ℕ). times r (m.value σ) x) c.tail_block.ensures.tail_is_padded in
+    c.add_to_each.ensures.block_is_added
+    ∙ ap (λ (v : ℕ). rowwise r.width (added v) bs) (c.add-sum.ensures ∙ ap₂ bit_xor c.hash_sum.ensures part)

@@ -8,8 +8,8 @@ use Rattle.tet_theory.specs.Tet.{chained}
 use Rattle.tet.proofs.Chains.{blocks_inside, chained_none, chained_push}
 use Rattle.tet.proofs.tweaks.chain.Goals as goal
 
-pub slice-bounds-from-bytes-end : goal.slice-bounds-from-bytes-end
-slice-bounds-from-bytes-end g c =
+pub slice_bounds-from_bytes-end : goal.slice_bounds-from_bytes-end
+slice_bounds-from_bytes-end g c =
     let v = c.width-w.result in
     let le : c.args.count * v ≤ length c.args.tweak.now = omega (arith, c.requires, ap (λ (w : ℕ). c.args.count * w) c.width-w.ensures) in
     blocks_inside c.loop-i.i c.args.count v (length c.args.tweak.now) c.loop-i-test.true le
@@ -31,8 +31,8 @@ loop-i-preserved g c =
     let bytes : (i : ℕ) → get_or bs i 0 < 256 = search rules in
     let under : AllBelowBase 256 bs = All-from_get_or (λ (d : ℕ). d < 256) bs 0 (λ i _. bytes i) in
     let k : i * v + v - i * v ≡ v = omega arith in
-    let read : m.value c.from-bytes.result ≡ block_at w i bs =
-    c.from-bytes.ensures
+    let read : m.value c.from_bytes.result ≡ block_at w i bs =
+    c.from_bytes.ensures
     ∙ ap (λ (n : ℕ). number_from_digits 256 (take n (drop (i * v) bs)) % 2 ^ (8 * w)) k
     ∙ ap (λ (n : ℕ). number_from_digits 256 (take n (drop (i * n) bs)) % 2 ^ (8 * w)) c.width-w.ensures
     ∙ mod-eq_of_lt (block_below w i bs under) in

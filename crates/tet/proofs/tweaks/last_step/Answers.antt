@@ -16,9 +16,9 @@ returns-then-end-width g c =
     let end = c.args.end.now in
     let bytes : (i : ℕ) → get_or end i 0 < 256 = search rules in
     let under = All-from_get_or (λ (d : ℕ). d < 256) end 0 (λ i _. bytes i) in
-    let once = times_alpha m.ring x (m.value c.times-alpha-once.result) (below c.args.x) c.times-alpha-once.ensures in
+    let once = times_alpha m.ring x (m.value c.times_alpha-once.result) (below c.args.x) c.times_alpha-once.ensures in
     let sum = c.add.ensures ∙ ap (λ (y : ℕ). bit_xor y v) once in
-    c.encipher.ensures.block_is_enciphered ∙ ap E (c.add-whole.ensures ∙ ap₂ bit_xor sum c.from-bytes.ensures)
+    c.encipher.ensures.block_is_enciphered ∙ ap E (c.add-whole.ensures ∙ ap₂ bit_xor sum c.from_bytes.ensures)
     ∙ whole_step m.ring E x v end under (c.if-end-width.true ∙ c.width.ensures)
 
 pub returns : goal.returns
@@ -31,9 +31,9 @@ returns g c =
     let end = c.args.end.now in
     let bytes : (i : ℕ) → get_or end i 0 < 256 = search rules in
     let under = All-from_get_or (λ (d : ℕ). d < 256) end 0 (λ i _. bytes i) in
-    let once = times_alpha m.ring x (m.value c.times-alpha-once.result) (below c.args.x) c.times-alpha-once.ensures in
-    let twice = times_alpha m.ring (m.value c.times-alpha-once.result) (m.value c.times-alpha-twice.result) (below c.times-alpha-once.result) c.times-alpha-twice.ensures
+    let once = times_alpha m.ring x (m.value c.times_alpha-once.result) (below c.args.x) c.times_alpha-once.ensures in
+    let twice = times_alpha m.ring (m.value c.times_alpha-once.result) (m.value c.times_alpha-twice.result) (below c.times_alpha-once.result) c.times_alpha-twice.ensures
     ∙ ap (times m.ring 2) once in
     let sum = c.add-2.ensures ∙ ap (λ (y : ℕ). bit_xor y v) twice in
-    c.encipher-2.ensures.block_is_enciphered ∙ ap E (c.add-short.ensures ∙ ap₂ bit_xor sum c.pad-block.ensures.bytes_are_padded)
+    c.encipher-2.ensures.block_is_enciphered ∙ ap E (c.add-short.ensures ∙ ap₂ bit_xor sum c.pad_block.ensures.bytes_are_padded)
     ∙ short_step m.ring E x v end under c.requires (λ e. c.if-end-width.false (e ∙ sym c.width.ensures))

@@ -10,7 +10,7 @@ pub chain-v-requires : goal.chain-v-requires
 chain-v-requires g c =
     let w = g.C.Ring.BlockRing.ring.width in
     let n = length c.args.tweak.now in
-    let same : c.saturating-sub.result / c.width-w.result * w ≡ (n - 1) / w * w = ap₂ (λ (a b : ℕ). a / b * w) c.saturating-sub.ensures c.width-w.ensures in
+    let same : c.saturating_sub.result / c.width-w.result * w ≡ (n - 1) / w * w = ap₂ (λ (a b : ℕ). a / b * w) c.saturating_sub.ensures c.width-w.ensures in
     omega (arith, same, ahead_fits n w)
 
 pub returns : goal.returns
@@ -21,9 +21,9 @@ returns g c =
     let bs = c.args.tweak.now in
     let n = c.args.size in
     let low : 8 * n < size m.ring = omega (arith, m.ring.counted, c.requires) in
-    let x_is : m.value c.encipher.new.block ≡ E (8 * n) = c.encipher.ensures.block_is_enciphered ∙ ap E (c.from-number-x.ensures ∙ mod-eq_of_lt low) in
-    let count : c.saturating-sub.result / c.width-w.result ≡ ahead m.ring E bs = ap₂ ◌/◌ c.saturating-sub.ensures c.width-w.ensures in
+    let x_is : m.value c.encipher.new.block ≡ E (8 * n) = c.encipher.ensures.block_is_enciphered ∙ ap E (c.from_number-x.ensures ∙ mod-eq_of_lt low) in
+    let count : c.saturating_sub.result / c.width-w.result ≡ ahead m.ring E bs = ap₂ ◌/◌ c.saturating_sub.ensures c.width-w.ensures in
     let v_is : m.value c.chain-v.result ≡ chained m.ring E 0 (first_blocks w (ahead m.ring E bs) bs) = c.chain-v.ensures ∙ ap (λ (i : ℕ). chained m.ring E 0 (first_blocks w i bs)) count in
-    let k = c.saturating-sub.result / c.width-w.result * c.width-w.result in
+    let k = c.saturating_sub.result / c.width-w.result * c.width-w.result in
     let end_is : take (length bs - k) (drop k bs) ≡ drop (ahead m.ring E bs * w) bs = take_rest bs k ∙ ap₂ (λ (i v : ℕ). drop (i * v) bs) count c.width-w.ensures in
-    c.last-step.ensures ∙ (λ t. last_step m.ring E (x_is t) (v_is t) (end_is t))
+    c.last_step.ensures ∙ (λ t. last_step m.ring E (x_is t) (v_is t) (end_is t))

@@ -4,8 +4,8 @@ use Rattle.fault_lists.specs.Held.{held_by}
 use Rattle.fault_lists.proofs.Tables.{listed}
 use Rattle.fault_lists.proofs.table.Table.list.Goals as goal
 
-pub slice-bounds-copy-from-slice-end : goal.slice-bounds-copy-from-slice-end
-slice-bounds-copy-from-slice-end c = omega (arith, c.held-held.ensures.room_is_kept, c.if-places-lt-ROOM.false)
+pub slice_bounds-copy_from_slice-end : goal.slice_bounds-copy_from_slice-end
+slice_bounds-copy_from_slice-end c = omega (arith, c.held-held.ensures.room_is_kept, c.if-places-lt-ROOM.false)
 
 pub returns : goal.returns
 returns c =
@@ -13,7 +13,7 @@ returns c =
     let places = c.args.places.now in
     let h = c.held-held.ensures.numbers_are_held in
     let n = c.held-held.result.now in
-    let after = c.copy-from-slice.ensures.after ∙ h in
+    let after = c.copy_from_slice.ensures.after ∙ h in
     let end : length n - 0 ≡ length held = omega (arith, ap length h) in
     record {
       count_is_answered = ap (λ (xs : List ℕ). Ok (length xs)) h ∙ sym (cond-false _ _ _ (le-ltb (length places) 64 c.if-places-lt-ROOM.false));
