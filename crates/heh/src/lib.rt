@@ -30,7 +30,7 @@ pub struct Heh<C> {
 
 /// Is it a multiple of w, from w to the greatest length?
 fn takes<R: BlockRing>(size: usize) -> bool
-    ensures { result ≡ size_fits ring size }
+    ensures { result ≡ size_fits R.ring size }
 {
     let w = R::width();
     size % w == 0 && w <= size && size <= R::longest()

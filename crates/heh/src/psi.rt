@@ -10,7 +10,7 @@ use rings::sums::hash_sum;
 
 /// X_i + Y + α^i·β, for i from 1.
 fn add_offsets<R: BlockRing>(y: R, beta: R, blocks: &mut [u8])
-    ensures { blocks.new ≡ rowwise ring.width (on_blocks (offset ring (value y) (value beta))) blocks.old }
+    ensures { blocks.new ≡ rowwise R.ring.width (on_blocks (offset R.ring (R.value y) (R.value beta))) blocks.old }
 {
     add_to_each(y, blocks);
     whiten(beta.times_alpha(), blocks);
@@ -18,8 +18,8 @@ fn add_offsets<R: BlockRing>(y: R, beta: R, blocks: &mut [u8])
 
 /// Y = X_m + H(τ; X_1..X_(m-1)); Z_i = X_i + Y + α^i·β for i < m, and Z_m = Y + β.
 pub(crate) fn forward<R: BlockRing>(tau: R, beta: R, sector: &mut [u8])
-    requires { size_fits ring (length sector.old) ≡ true }
-    ensures { sector.new ≡ rowwise ring.width (on_blocks (psi ring (value tau) (value beta))) sector.old }
+    requires { size_fits R.ring (length sector.old) ≡ true }
+    ensures { sector.new ≡ rowwise R.ring.width (on_blocks (psi R.ring (R.value tau) (R.value beta))) sector.old }
 {
     let end = sector.len() - R::width();
     let y = R::from_bytes(&sector[end..]).add(hash_sum(tau, &sector[..end]));
@@ -29,8 +29,8 @@ pub(crate) fn forward<R: BlockRing>(tau: R, beta: R, sector: &mut [u8])
 
 /// Y = Z_m + β; X_i = Z_i + Y + α^i·β for i < m, and X_m = Y + H(τ; X_1..X_(m-1)).
 pub(crate) fn back<R: BlockRing>(tau: R, beta: R, sector: &mut [u8])
-    requires { size_fits ring (length sector.old) ≡ true }
-    ensures { sector.new ≡ rowwise ring.width (on_blocks (psi_back ring (value tau) (value beta))) sector.old }
+    requires { size_fits R.ring (length sector.old) ≡ true }
+    ensures { sector.new ≡ rowwise R.ring.width (on_blocks (psi_back R.ring (R.value tau) (R.value beta))) sector.old }
 {
     let end = sector.len() - R::width();
     let y = R::from_bytes(&sector[end..]).add(beta);

@@ -12,7 +12,7 @@ use Rattle.ciphers.specs.Cipher.{CipherKind, fits}
 use Rattle.passes.specs.Sector.{Sector, rowwise}
 use Rattle.passes.proofs.Parts.{rowwise_row, rowwise_undone}
 use Rattle.passes.proofs.Stages.{Sound}
-use Rattle.heh_theory.specs.Heh.{wrapped, tau, beta1, beta2, on_blocks, size_fit, taken, encipher, decipher}
+use Rattle.heh_theory.specs.Heh.{wrapped, tau, beta1, beta2, on_blocks, size_fits, taken, encipher, decipher}
 use Rattle.heh_theory.specs.Laws.{Undoing}
 use Rattle.heh_theory.proofs.Inverse.{wrapped_sound, wrapped_undone, on_blocks_sound, on_blocks_undone}
 
@@ -23,7 +23,7 @@ pub record Size (r : RingKind) (ℓ : ℕ) : Type 0 where
   pub most : ℓ ≤ r.longest
 
 module _ (r : RingKind) (ℓ : ℕ) where
-  pub size_parts : size_fit r ℓ ≡ true → Size r ℓ
+  pub size_parts : size_fits r ℓ ≡ true → Size r ℓ
   size_parts h =
       let p = and_parts (eqb (ℓ % r.width) 0 && leb r.width ℓ) (leb ℓ r.longest) h in
       let q = and_parts (eqb (ℓ % r.width) 0) (leb r.width ℓ) p.0 in
@@ -39,22 +39,22 @@ module _ (r : RingKind) (ℓ : ℕ) where
 -- key, size, tweak and bytes that fit
 pub record Taken (k : CipherKind) (key : List ℕ) (ℓ : ℕ) (tweak bs : List ℕ) : Type 0 where
   pub key_fit : fits k key ≡ true
-  pub size_fit : size_fit k.ring ℓ ≡ true
+  pub size_fit : size_fits k.ring ℓ ≡ true
   pub tweak_row : row k.ring.width tweak ≡ true
   pub bytes_row : row ℓ bs ≡ true
 
 module _ (k : CipherKind) (key : List ℕ) (ℓ : ℕ) (tweak bs : List ℕ) where
   taken_parts : taken k key ℓ tweak bs ≡ true → Taken k key ℓ tweak bs
   taken_parts h =
-      let p = and_parts (fits k key && size_fit k.ring ℓ && row k.ring.width tweak) (row ℓ bs) h in
-      let q = and_parts (fits k key && size_fit k.ring ℓ) (row k.ring.width tweak) p.0 in
-      let s = and_parts (fits k key) (size_fit k.ring ℓ) q.0 in
+      let p = and_parts (fits k key && size_fits k.ring ℓ && row k.ring.width tweak) (row ℓ bs) h in
+      let q = and_parts (fits k key && size_fits k.ring ℓ) (row k.ring.width tweak) p.0 in
+      let s = and_parts (fits k key) (size_fits k.ring ℓ) q.0 in
       record { key_fit = s.0; size_fit = s.1; tweak_row = q.1; bytes_row = p.1 }
 
   pub taken_from : Taken k key ℓ tweak bs → taken k key ℓ tweak bs ≡ true
   taken_from t =
-      and_from (fits k key && size_fit k.ring ℓ && row k.ring.width tweak) (row ℓ bs)
-      (and_from (fits k key && size_fit k.ring ℓ) (row k.ring.width tweak) (and_from (fits k key) (size_fit k.ring ℓ) t.key_fit t.size_fit) t.tweak_row)
+      and_from (fits k key && size_fits k.ring ℓ && row k.ring.width tweak) (row ℓ bs)
+      (and_from (fits k key && size_fits k.ring ℓ) (row k.ring.width tweak) (and_from (fits k key) (size_fits k.ring ℓ) t.key_fit t.size_fit) t.tweak_row)
       t.bytes_row
 
 -- a map where a test holds

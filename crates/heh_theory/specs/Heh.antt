@@ -75,13 +75,13 @@ abbrev pub on_blocks : (List ℕ → List ℕ) → Sector → Sector
 on_blocks f s = record { blocks = f s.blocks; tail = s.tail }
 
 -- is ℓ a multiple of w, from w to the greatest length?
-abbrev pub size_fit : RingKind → ℕ → Bool
-size_fit r ℓ = ℓ % r.width == 0 && nat_le r.width ℓ && nat_le ℓ r.longest
+abbrev pub size_fits : RingKind → ℕ → Bool
+size_fits r ℓ = ℓ % r.width == 0 && nat_le r.width ℓ && nat_le ℓ r.longest
 
 module _ (k : CipherKind) where
   -- do key, size and tweak fit, and is it a row of that size?
   abbrev pub taken : List ℕ → ℕ → List ℕ → List ℕ → Bool
-  taken key ℓ tweak bs = fits k key && size_fit k.ring ℓ && row k.ring.width tweak && row ℓ bs
+  taken key ℓ tweak bs = fits k key && size_fits k.ring ℓ && row k.ring.width tweak && row ℓ bs
 
   abbrev pub encipher : List ℕ → ℕ → List ℕ → List ℕ → List ℕ
   encipher key ℓ tweak bs =

@@ -12,7 +12,7 @@ use Rattle.modes.specs.declared.ModeFault.{ModeFault}
 use Rattle.modes.specs.declared.ModeFault.TheVariants.{WrongLength, Key, WrongSize, NoInverse, WrongTweak}
 use Rattle.passes.specs.Sector.{rowwise}
 use Rattle.tet_theory.specs.State.{keyed_with, state_of, without_hash, refusal, obstacle}
-use Rattle.tet_theory.specs.Tet.{HashKey, enciphered, deciphered, size_fit, hash_key, beta, first_key, second_key, key_fit, hash_for, on_rows, encipher, decipher}
+use Rattle.tet_theory.specs.Tet.{HashKey, enciphered, deciphered, size_fits, hash_key, beta, first_key, second_key, key_fits, hash_for, on_rows, encipher, decipher}
 use Rattle.tet_theory.proofs.Undoing.{some_parts}
 
 -- ---- calls with a tweak
@@ -20,7 +20,7 @@ use Rattle.tet_theory.proofs.Undoing.{some_parts}
 -- a hash key says that the size fits
 pub hash_size : (r : RingKind) (E : ℕ → ℕ) (n : ℕ) (h : HashKey) → hash_key r E n ≡ Some h → (r.width ≤ n) × (n ≤ r.longest)
 hash_size r E n h is =
-    let p = and_parts (leb r.width n) (leb n r.longest) (some_parts (size_fit r n) _ h is).0 in
+    let p = and_parts (leb r.width n) (leb n r.longest) (some_parts (size_fits r n) _ h is).0 in
     (leb-true r.width n p.0, leb-true n r.longest p.1)
 
 -- a short tweak is no obstacle
@@ -42,11 +42,11 @@ module _ (k : CipherKind) (K1 K2 : List ℕ) (good1 : fits k K1 ≡ true) (good2
   second_is : second_key (K1 ++ K2) ≡ K2
   second_is = drop_at K1 K2 (length (K1 ++ K2) / 2) (sym half)
 
-  keys_fit : key_fit k (K1 ++ K2) ≡ true
+  keys_fit : key_fits k (K1 ++ K2) ≡ true
   keys_fit = and_from (fits k (first_key (K1 ++ K2))) (fits k (second_key (K1 ++ K2))) (ap (fits k) first_is ∙ good1) (ap (fits k) second_is ∙ good2)
 
   hash_is : (n : ℕ) → hash_for k (K1 ++ K2) n ≡ hash_key k.ring (k.encipher K1) n
-  hash_is n = cond-true (key_fit k (K1 ++ K2)) _ None keys_fit ∙ ap (λ key. hash_key k.ring (k.encipher key) n) first_is
+  hash_is n = cond-true (key_fits k (K1 ++ K2)) _ None keys_fit ∙ ap (λ key. hash_key k.ring (k.encipher key) n) first_is
 
   -- a pair that is held fits, for every kind of mode that refuses as TET does
   pub held_fits : (n : ℕ) (kind : ModeKind) → ((key : List ℕ) (n : ℕ) → kind.refusal key n ≡ refusal k key n) → Fitting kind (state_of k K1 K2 n)
@@ -57,8 +57,8 @@ module _ (k : CipherKind) (K1 K2 : List ℕ) (good1 : fits k K1 ≡ true) (good2
       go (Some h) e =
           let here : hash_key k.ring (k.encipher (first_key (K1 ++ K2))) n ≡ Some h = ap (λ key. hash_key k.ring (k.encipher key) n) first_is ∙ e in
           same (K1 ++ K2) n
-          ∙ cond-true (key_fit k (K1 ++ K2)) _ (Some (Key WrongKeyLength)) keys_fit
-          ∙ cond-true (size_fit k.ring n) _ (Some WrongSize) (some_parts (size_fit k.ring n) _ h e).0
+          ∙ cond-true (key_fits k (K1 ++ K2)) _ (Some (Key WrongKeyLength)) keys_fit
+          ∙ cond-true (size_fits k.ring n) _ (Some WrongSize) (some_parts (size_fits k.ring n) _ h e).0
           ∙ ap without_hash here
 
   module _ (n : ℕ) (tweak bs : List ℕ) where
@@ -101,32 +101,32 @@ module _ (k : CipherKind) (K1 K2 : List ℕ) (good1 : fits k K1 ≡ true) (good2
 
 -- ---- keys
 
-pub too_small : (r : RingKind) (n : ℕ) → n < r.width → size_fit r n ≡ false
+pub too_small : (r : RingKind) (n : ℕ) → n < r.width → size_fits r n ≡ false
 too_small r n h = and_left (leb r.width n) (leb n r.longest) (lt-leb r.width n h)
 
-pub too_large : (r : RingKind) (n : ℕ) → r.longest < n → size_fit r n ≡ false
+pub too_large : (r : RingKind) (n : ℕ) → r.longest < n → size_fits r n ≡ false
 too_large r n h = and_right (leb r.width n) (leb n r.longest) (lt-leb n r.longest h)
 
 module _ (k : CipherKind) (key : List ℕ) (n : ℕ) where
   pub first_refused : fits k (first_key key) ≡ false → refusal k key n ≡ Some (Key WrongKeyLength)
-  first_refused bad = cond-false (key_fit k key) _ (Some (Key WrongKeyLength)) (and_left (fits k (first_key key)) (fits k (second_key key)) bad)
+  first_refused bad = cond-false (key_fits k key) _ (Some (Key WrongKeyLength)) (and_left (fits k (first_key key)) (fits k (second_key key)) bad)
 
   pub second_refused : fits k (second_key key) ≡ false → refusal k key n ≡ Some (Key WrongKeyLength)
-  second_refused bad = cond-false (key_fit k key) _ (Some (Key WrongKeyLength)) (and_right (fits k (first_key key)) (fits k (second_key key)) bad)
+  second_refused bad = cond-false (key_fits k key) _ (Some (Key WrongKeyLength)) (and_right (fits k (first_key key)) (fits k (second_key key)) bad)
 
   module _ (good1 : fits k (first_key key) ≡ true) (good2 : fits k (second_key key) ≡ true) where
-    past_key : refusal k key n ≡ cond (size_fit k.ring n) (without_hash (hash_key k.ring (k.encipher (first_key key)) n)) (Some WrongSize)
-    past_key = cond-true (key_fit k key) _ (Some (Key WrongKeyLength)) (and_from (fits k (first_key key)) (fits k (second_key key)) good1 good2)
+    past_key : refusal k key n ≡ cond (size_fits k.ring n) (without_hash (hash_key k.ring (k.encipher (first_key key)) n)) (Some WrongSize)
+    past_key = cond-true (key_fits k key) _ (Some (Key WrongKeyLength)) (and_from (fits k (first_key key)) (fits k (second_key key)) good1 good2)
 
-    pub size_refused : size_fit k.ring n ≡ false → refusal k key n ≡ Some WrongSize
-    size_refused bad = past_key ∙ cond-false (size_fit k.ring n) _ (Some WrongSize) bad
+    pub size_refused : size_fits k.ring n ≡ false → refusal k key n ≡ Some WrongSize
+    size_refused bad = past_key ∙ cond-false (size_fits k.ring n) _ (Some WrongSize) bad
 
-    pub hash_refused : size_fit k.ring n ≡ true → hash_key k.ring (k.encipher (first_key key)) n ≡ None → refusal k key n ≡ Some NoInverse
-    hash_refused fit none = past_key ∙ cond-true (size_fit k.ring n) _ (Some WrongSize) fit ∙ ap without_hash none
+    pub hash_refused : size_fits k.ring n ≡ true → hash_key k.ring (k.encipher (first_key key)) n ≡ None → refusal k key n ≡ Some NoInverse
+    hash_refused fit none = past_key ∙ cond-true (size_fits k.ring n) _ (Some WrongSize) fit ∙ ap without_hash none
 
     module _ (h : HashKey) (is : hash_key k.ring (k.encipher (first_key key)) n ≡ Some h) where
       pub not_refused : refusal k key n ≡ None
-      not_refused = past_key ∙ cond-true (size_fit k.ring n) _ (Some WrongSize) (some_parts (size_fit k.ring n) _ h is).0 ∙ ap without_hash is
+      not_refused = past_key ∙ cond-true (size_fits k.ring n) _ (Some WrongSize) (some_parts (size_fits k.ring n) _ h is).0 ∙ ap without_hash is
 
       pub now_held : (K1 K2 : List ℕ) → K1 ≡ first_key key → K2 ≡ second_key key → state_of k K1 K2 n ≡ Some (record { key = key; size = n })
       now_held K1 K2 e1 e2 =

@@ -10,7 +10,7 @@ use Rattle.passes.specs.Passes.{whitened}
 use Rattle.passes.specs.Sector.{Sector}
 use Rattle.passes.proofs.Parts.{tail_short, rowwise_row, rowwise_undone}
 use Rattle.passes.proofs.Stages.{Sound, whitened_sound, whitened_back}
-use Rattle.tet_theory.specs.Tet.{HashKey, blended, unblended, crypted, enciphered, deciphered, hash_with, size_fit, hash_key, beta, first_key, second_key, key_fit, hash_for, on_rows, encipher, decipher}
+use Rattle.tet_theory.specs.Tet.{HashKey, blended, unblended, crypted, enciphered, deciphered, hash_with, size_fits, hash_key, beta, first_key, second_key, key_fits, hash_for, on_rows, encipher, decipher}
 use Rattle.tet_theory.proofs.Blends.{blended_sound, unblended_sound, unblended_blended, blended_unblended}
 use Rattle.tet_theory.proofs.Lasts.{crypted_sound, crypted_back}
 
@@ -76,14 +76,14 @@ with_inverse r τ m (Some ι) e h is =
 
 module _ (k : CipherKind) (key : List ℕ) (n : ℕ) (h : HashKey) (is : hash_for k key n ≡ Some h) where
   second_fits : fits k (second_key key) ≡ true
-  second_fits = (and_parts (fits k (first_key key)) (fits k (second_key key)) (some_parts (key_fit k key) _ h is).0).1
+  second_fits = (and_parts (fits k (first_key key)) (fits k (second_key key)) (some_parts (key_fits k key) _ h is).0).1
 
   hashed : Hashed k.ring (n / k.ring.width) h
   hashed =
       let r = k.ring in
       let E = k.encipher (first_key key) in
       let τ = E (times r 2 (E 0)) in
-      with_inverse r τ (n / r.width) (r.inverse (sigma r τ (n / r.width))) refl h (some_parts (size_fit r n) _ h (some_parts (key_fit k key) _ h is).1).1
+      with_inverse r τ (n / r.width) (r.inverse (sigma r τ (n / r.width))) refl h (some_parts (size_fits r n) _ h (some_parts (key_fits k key) _ h is).1).1
 
 -- ---- on rows of bytes
 

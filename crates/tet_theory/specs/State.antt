@@ -5,7 +5,7 @@ use Rattle.ciphers.specs.declared.KeyFault.TheVariants.{WrongLength as WrongKeyL
 use Rattle.modes.specs.Mode.{Keyed}
 use Rattle.modes.specs.declared.ModeFault.{ModeFault}
 use Rattle.modes.specs.declared.ModeFault.TheVariants.{WrongLength, Key, WrongSize, NoInverse, WrongTweak}
-use Rattle.tet_theory.specs.Tet.{HashKey, size_fit, hash_key, first_key, key_fit}
+use Rattle.tet_theory.specs.Tet.{HashKey, size_fits, hash_key, first_key, key_fits}
 
 abbrev pub keyed_with : Option HashKey → List ℕ → ℕ → Option Keyed
 keyed_with None key ℓ = None
@@ -22,8 +22,8 @@ without_hash (Some h) = None
 -- why a key and a size are not taken: 5, then 6, then 7
 abbrev pub refusal : CipherKind → List ℕ → ℕ → Option ModeFault
 refusal k key ℓ =
-    cond (key_fit k key)
-    (cond (size_fit k.ring ℓ) (without_hash (hash_key k.ring (k.encipher (first_key key)) ℓ)) (Some WrongSize))
+    cond (key_fits k key)
+    (cond (size_fits k.ring ℓ) (without_hash (hash_key k.ring (k.encipher (first_key key)) ℓ)) (Some WrongSize))
     (Some (Key WrongKeyLength))
 
 -- why a buffer is not ciphered under a tweak: 2, then 12

@@ -16,8 +16,8 @@ pub record HashKey : Type 0 where
   pub «1/σ» : ℕ
 
 -- sizes run from one block to the greatest length
-abbrev pub size_fit : RingKind → ℕ → Bool
-size_fit r ℓ = nat_le r.width ℓ && nat_le ℓ r.longest
+abbrev pub size_fits : RingKind → ℕ → Bool
+size_fits r ℓ = nat_le r.width ℓ && nat_le ℓ r.longest
 
 module _ (r : RingKind) where
   -- none where σ has no inverse
@@ -31,7 +31,7 @@ module _ (r : RingKind) where
 
   -- with E = E_K1: τ = E(α·E(0)), and m = ℓ div w
   abbrev pub hash_key : (ℕ → ℕ) → ℕ → Option HashKey
-  hash_key E ℓ = cond (size_fit r ℓ) (hash_of (E (times r 2 (E 0))) (ℓ / r.width)) None
+  hash_key E ℓ = cond (size_fits r ℓ) (hash_of (E (times r 2 (E 0))) (ℓ / r.width)) None
 
 -- ---- β, with E = E_K1
 
@@ -121,12 +121,12 @@ abbrev pub second_key : List ℕ → List ℕ
 second_key key = drop (length key / 2) key
 
 module _ (k : CipherKind) where
-  abbrev pub key_fit : List ℕ → Bool
-  key_fit key = fits k (first_key key) && fits k (second_key key)
+  abbrev pub key_fits : List ℕ → Bool
+  key_fits key = fits k (first_key key) && fits k (second_key key)
 
   -- the hash key of a key and a size, where they fit
   abbrev pub hash_for : List ℕ → ℕ → Option HashKey
-  hash_for key ℓ = cond (key_fit key) (hash_key k.ring (k.encipher (first_key key)) ℓ) None
+  hash_for key ℓ = cond (key_fits key) (hash_key k.ring (k.encipher (first_key key)) ℓ) None
 
   -- a map of sectors on rows of bytes; a row stays where there is no hash key
   abbrev pub on_rows : (HashKey → Sector → Sector) → Option HashKey → List ℕ → List ℕ

@@ -18,11 +18,11 @@ size_taken false fit x y z e = cc
 
 pub tet_bounded : (k : CipherKind) (key : List ℕ) (ℓ : ℕ) → tet-mode.refusal k key ℓ ≡ None → ℓ ≤ 4096
 tet_bounded k key ℓ e =
-    let fit = size_taken (tet.key_fit k key) (tet.size_fit k.ring ℓ) _ _ _ e in
+    let fit = size_taken (tet.key_fits k key) (tet.size_fits k.ring ℓ) _ _ _ e in
     let low = leb-true ℓ k.ring.longest (and_parts (nat_le k.ring.width ℓ) (nat_le ℓ k.ring.longest) fit).1 in
     omega (arith, low, k.ring.bounded)
 
 pub heh_bounded : (k : CipherKind) (key : List ℕ) (ℓ : ℕ) → heh-mode.refusal k key ℓ ≡ None → ℓ ≤ 4096
 heh_bounded k key ℓ e =
-    let fit = size_taken (fits k key) (heh.size_fit k.ring ℓ) _ _ _ e in
+    let fit = size_taken (fits k key) (heh.size_fits k.ring ℓ) _ _ _ e in
     omega (arith, (size_parts k.ring ℓ fit).most, k.ring.bounded)

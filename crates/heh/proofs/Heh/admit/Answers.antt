@@ -1,7 +1,7 @@
 use Rattle.std.proofs.Common.{◌≡◌, Bool, true, sym, ap, ◌∙◌, rules}
 use Rattle.rings.specs.Ring.{RingKind}
 use Rattle.modes.specs.Faults.{answered}
-use Rattle.heh_theory.specs.Heh.{size_fit}
+use Rattle.heh_theory.specs.Heh.{size_fits}
 use Rattle.heh_theory.proofs.Refusals.{blank, wrong_length, free}
 use Rattle.heh.proofs.Heh.admit.Goals as goal
 use Rattle.heh.proofs.Heh.admit.Goals.{then-not-takes-via-then-not-takes, then-not-takes-via-else-not-takes+then-buffer-self}
@@ -12,7 +12,7 @@ returns-then-not-takes g c =
     let self = c.args.self.now in
     let key = g.C.BlockCipher.held self.cipher in
     let bs = c.args.buffer.now in
-    let is : size_fit k.ring self.size ≡ c.takes.result = ap (λ (r : RingKind). size_fit r self.size) g.met.C.BlockCipher.over ∙ sym c.takes.ensures in
+    let is : size_fits k.ring self.size ≡ c.takes.result = ap (λ (r : RingKind). size_fits r self.size) g.met.C.BlockCipher.over ∙ sym c.takes.ensures in
     elim c.then-not-takes.branch [
       | then-not-takes-via-then-not-takes w ↦ record { answer = sym (ap answered (blank k.ring key self.size bs (is ∙ w.if-not-takes.true))) }
       | then-not-takes-via-else-not-takes+then-buffer-self w ↦
@@ -25,5 +25,5 @@ returns g c =
     let self = c.args.self.now in
     let key = g.C.BlockCipher.held self.cipher in
     let bs = c.args.buffer.now in
-    let fit : size_fit k.ring self.size ≡ true = ap (λ (r : RingKind). size_fit r self.size) g.met.C.BlockCipher.over ∙ sym c.takes.ensures ∙ c.if-not-takes.false in
+    let fit : size_fits k.ring self.size ≡ true = ap (λ (r : RingKind). size_fits r self.size) g.met.C.BlockCipher.over ∙ sym c.takes.ensures ∙ c.if-not-takes.false in
     record { answer = sym (ap answered (free k.ring key self.size bs fit c.if-buffer-self.false)) }

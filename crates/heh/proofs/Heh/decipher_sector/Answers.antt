@@ -3,7 +3,7 @@ use Rattle.std.proofs.ByRecursion.{All-from_get_or}
 use Rattle.rings.specs.Ring.{RingKind, size}
 use Rattle.rings.proofs.Rows.{row_is, row_bytes_of}
 use Rattle.modes.specs.Mode.{obstacle}
-use Rattle.heh_theory.specs.Heh.{size_fit, decipher_sector, sector_tweak}
+use Rattle.heh_theory.specs.Heh.{size_fits, decipher_sector, sector_tweak}
 use Rattle.heh_theory.specs.State.{keyed_with}
 use Rattle.heh_theory.proofs.Refusals.{accepted, admitted, ciphered_is}
 use Rattle.heh.proofs.Steps.{decipher_is, sector_block}
@@ -19,7 +19,7 @@ decipher-requires g c =
     let bs = c.args.buffer.now in
     let o = obstacle (keyed_with k.ring key ℓ) bs in
     let ok = admitted k.ring key ℓ bs (accepted o c.in_ok-admit.ensures.answer) in
-    ap (λ (r : RingKind). size_fit r (length bs)) (sym g.met.C.BlockCipher.over) ∙ ap (size_fit k.ring) ok.long ∙ ok.fit
+    ap (λ (r : RingKind). size_fits r (length bs)) (sym g.met.C.BlockCipher.over) ∙ ap (size_fits k.ring) ok.long ∙ ok.fit
 
 pub returns : goal.returns
 returns g c =

@@ -4,7 +4,7 @@ use Rattle.std.proofs.ByRecursion.{All-from_get_or}
 use Rattle.rings.specs.Ring.{RingKind, size}
 use Rattle.rings.proofs.Rows.{row_is}
 use Rattle.modes.specs.Mode.{obstacle}
-use Rattle.heh_theory.specs.Heh.{size_fit, encipher}
+use Rattle.heh_theory.specs.Heh.{size_fits, encipher}
 use Rattle.heh_theory.specs.State.{keyed_with, or_tweak}
 use Rattle.heh_theory.proofs.Refusals.{accepted, admitted, ciphered_is, tweak_admitted}
 use Rattle.heh.proofs.Steps.{encipher_is, tweak_block}
@@ -23,7 +23,7 @@ encipher-requires g c =
     let free = accepted (or_tweak k.ring tweak o) c.in_ok-admit_with_tweak.ensures.answer in
     let both = tweak_admitted k.ring tweak o free in
     let ok = admitted k.ring key ℓ bs both.0 in
-    ap (λ (r : RingKind). size_fit r (length bs)) (sym g.met.C.BlockCipher.over) ∙ ap (size_fit k.ring) ok.long ∙ ok.fit
+    ap (λ (r : RingKind). size_fits r (length bs)) (sym g.met.C.BlockCipher.over) ∙ ap (size_fits k.ring) ok.long ∙ ok.fit
 
 pub returns : goal.returns
 returns g c =

@@ -5,7 +5,7 @@ use Rattle.ciphers.specs.Cipher.{fits}
 use Rattle.modes.specs.Faults.{answered}
 use Rattle.modes.specs.Mode.{keyed_after}
 use Rattle.modes.specs.declared.ModeFault.{ModeFault}
-use Rattle.heh_theory.specs.Heh.{size_fit}
+use Rattle.heh_theory.specs.Heh.{size_fits}
 use Rattle.heh_theory.specs.State.{keyed_with}
 use Rattle.heh.specs.State.{state_of}
 use Rattle.ciphers.proofs.Keys.{taken}
@@ -18,7 +18,7 @@ returns-then-not-takes g c =
     let key = c.args.key.now in
     let ℓ = c.args.size in
     let good = taken (fits k key) c.in_ok-set_key.ensures.answer in
-    let bad : size_fit k.ring ℓ ≡ false = ap (λ (r : RingKind). size_fit r ℓ) g.met.C.BlockCipher.over ∙ sym c.takes.ensures ∙ c.if-not-takes.true in
+    let bad : size_fits k.ring ℓ ≡ false = ap (λ (r : RingKind). size_fits r ℓ) g.met.C.BlockCipher.over ∙ sym c.takes.ensures ∙ c.if-not-takes.true in
     let why = size_refused k key ℓ good bad in
     record {
       answer = sym (ap answered why);
@@ -31,7 +31,7 @@ returns g c =
     let key = c.args.key.now in
     let ℓ = c.args.size in
     let good = taken (fits k key) c.in_ok-set_key.ensures.answer in
-    let fit : size_fit k.ring ℓ ≡ true = ap (λ (r : RingKind). size_fit r ℓ) g.met.C.BlockCipher.over ∙ sym c.takes.ensures ∙ c.if-not-takes.false in
+    let fit : size_fits k.ring ℓ ≡ true = ap (λ (r : RingKind). size_fits r ℓ) g.met.C.BlockCipher.over ∙ sym c.takes.ensures ∙ c.if-not-takes.false in
     let free = not_refused k key ℓ good fit in
     let key_is = c.in_ok-set_key.ensures.key_is_held ∙ cond-true (fits k key) key _ good in
     record {

@@ -10,7 +10,7 @@ use Rattle.modes.specs.Mode.{keyed_after}
 use Rattle.tet.specs.Keys.{key_of}
 use Rattle.tet_theory.specs.State.{refusal}
 use Rattle.tet.specs.State.{tet_state}
-use Rattle.tet_theory.specs.Tet.{first_key, second_key, size_fit, hash_key}
+use Rattle.tet_theory.specs.Tet.{first_key, second_key, size_fits, hash_key}
 use Rattle.tet.proofs.Hashes.{size_fit}
 use Rattle.ciphers.proofs.Keys.{taken, turned}
 use Rattle.tet_theory.proofs.States.{too_small, too_large, second_refused, size_refused, hash_refused, not_refused, now_held}
@@ -37,8 +37,8 @@ returns-then-size-width g c =
     let over = g.met.C.BlockCipher.over in
     let good1 : fits k (first_key key) ≡ true = ap (λ i. fits k (take i key)) (sym (sub-zero (length key / 2))) ∙ taken _ c.in_ok-set_key.ensures.answer in
     let good2 : fits k (second_key key) ≡ true = ap (fits k) (sym (take_rest key (length key / 2))) ∙ taken _ c.in_ok-set_key-2.ensures.answer in
-    let bad : size_fit k.ring n ≡ false =
-    ap (λ r. size_fit r n) over
+    let bad : size_fits k.ring n ≡ false =
+    ap (λ r. size_fits r n) over
     ∙ elim c.then-size-width.branch [
       | then-size-width-via-then-size-width w ↦ too_small g.C.Ring.BlockRing.ring n (omega (arith, w.if-size-width.true, c.width.ensures))
       | then-size-width-via-else-size-width+then-longest-size w ↦ too_large g.C.Ring.BlockRing.ring n (omega (arith, w.if-longest-size.true, w.longest.ensures))
@@ -58,7 +58,7 @@ returns-in_default g c =
     let over = g.met.C.BlockCipher.over in
     let good1 : fits k (first_key key) ≡ true = ap (λ i. fits k (take i key)) (sym (sub-zero (length key / 2))) ∙ taken _ c.in_ok-set_key.ensures.answer in
     let good2 : fits k (second_key key) ≡ true = ap (fits k) (sym (take_rest key (length key / 2))) ∙ taken _ c.in_ok-set_key-2.ensures.answer in
-    let fit = ap (λ r. size_fit r n) over ∙ size_fit g.C.Ring.BlockRing.ring n (omega (arith, c.if-size-width.false, c.width.ensures)) (omega (arith, c.if-longest-size.false, c.longest.ensures)) in
+    let fit = ap (λ r. size_fits r n) over ∙ size_fit g.C.Ring.BlockRing.ring n (omega (arith, c.if-size-width.false, c.width.ensures)) (omega (arith, c.if-longest-size.false, c.longest.ensures)) in
     let fit1 = taken _ c.in_ok-set_key.ensures.answer in
     let key1 : held c.set_key.new.self ≡ first_key key = c.in_ok-set_key.ensures.key_is_held ∙ cond-true _ _ _ fit1 ∙ ap (λ i. take i key) (sub-zero (length key / 2)) in
     let none : hash_key k.ring (k.encipher (first_key key)) n ≡ None =
