@@ -21,7 +21,7 @@ returns-then-whole-sector g c =
     let key = k.held c.args.cipher.now in
     let f = k.kind.decipher key in
     let bs = c.args.sector.now in
-    let bytes : (i : ℕ) → get_or bs i 0 < 256 = search rules in
+    let bytes : (i : ℕ) → get_or bs i 0 < 256 = search (rules, c.slice_known-1) in
     let under = All-from_get_or (λ (d : ℕ). d < 256) bs 0 (λ i _. bytes i) in
     let closed : (x : ℕ) → x < size m.ring → f x < size m.ring =
     subst (λ r. (x : ℕ) → x < size r → f x < size r) g.met.C.BlockCipher.over (λ x l. k.kind.decipher_block key x (g.C.BlockCipher.fitting c.args.cipher.now) l) in
