@@ -18,7 +18,7 @@ pub struct Window<D: SectorDevice> {
 impl<D: SectorDevice> Window<D> {
     /// A start at or past the device's end shows no sector.
     pub fn new(device: D, start: u32, wanted: u32) -> Self
-        ensures part_is_shown { window_of result.start result.wanted (meaning result.device) ≡ window_of start wanted (meaning device) }
+        ensures part_is_shown { window_of result.start result.wanted (D.meaning result.device) ≡ window_of start wanted (D.meaning device) }
         ensures place_is_kept { (result.start ≡ start) × (result.wanted ≡ wanted) }
         ensures device_is_below { result.device ≡ device }
     {

@@ -6,4 +6,4 @@ use Rattle.images.proofs.ImageSectorDevice.count.Goals as goal
 pub returns : goal.returns
 returns c =
     let bytes = c.args.self.now.bytes.now in
-    c.min.ensures ∙ ap (λ n. min (length bytes / n) 4294967295) c.sector-size-size.ensures ∙ sym (count_is (size_of c.args.self.now.wanted) bytes)
+    c.min.ensures ∙ ap (λ n. min (length bytes / n) 4294967295) c.sector_size-size.ensures ∙ sym (count_is (size_of c.args.self.now.wanted) bytes)

@@ -5,14 +5,14 @@ use Rattle.images.specs.Sounds.{inside}
 use Rattle.images.proofs.Slices.{below, fits, accepted, reads}
 use Rattle.images.proofs.ImageSectorDevice.read.Goals as goal
 
-pub copy-out-requires : goal.copy-out-requires
-copy-out-requires c =
+pub copy_out-requires : goal.copy_out-requires
+copy_out-requires c =
     let k = size_of c.args.self.now.wanted in
     let bytes = c.args.self.now.bytes.now in
     let s = c.args.sector in
     let len = length c.args.buffer.now in
-    let z = c.sector-size-size.ensures in
-    let ok = passed (cut k bytes) s _ _ len c.count-count.ensures z c.in-ok-check.ensures in
+    let z = c.sector_size-size.ensures in
+    let ok = passed (cut k bytes) s _ _ len c.count-count.ensures z c.in_ok-check.ensures in
     omega (arith, inside k bytes s (below k bytes s len ok), fits k bytes s len ok, ap (λ n. s * n) z)
 
 pub returns : goal.returns
@@ -22,13 +22,13 @@ returns c =
     let s = c.args.sector in
     let buffer = c.args.buffer.now in
     let len = length buffer in
-    let z = c.sector-size-size.ensures in
-    let ok = passed (cut k bytes) s _ _ len c.count-count.ensures z c.in-ok-check.ensures in
+    let z = c.sector_size-size.ensures in
+    let ok = passed (cut k bytes) s _ _ len c.count-count.ensures z c.in_ok-check.ensures in
     record {
       call_is_answered = accepted k bytes s len ok;
       device_stays = refl;
       buffer_is_filled =
-          c.copy-out.ensures
+          c.copy_out.ensures
           ∙ ap (λ n. take len (drop (s * n) bytes)) z
           ∙ ap (λ n. take n (drop (s * k) bytes)) (fits k bytes s len ok)
           ∙ reads k bytes s buffer ok;

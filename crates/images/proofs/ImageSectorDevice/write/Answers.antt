@@ -6,14 +6,14 @@ use Rattle.images.specs.Sounds.{inside}
 use Rattle.images.proofs.Slices.{below, fits, accepted, writes, stores}
 use Rattle.images.proofs.ImageSectorDevice.write.Goals as goal
 
-pub copy-in-requires : goal.copy-in-requires
-copy-in-requires c =
+pub copy_in-requires : goal.copy_in-requires
+copy_in-requires c =
     let k = size_of c.args.self.now.wanted in
     let bytes = c.args.self.now.bytes.now in
     let s = c.args.sector in
     let len = length c.args.buffer.now in
-    let z = c.sector-size-size.ensures in
-    let ok = passed (cut k bytes) s _ _ len c.count-count.ensures z c.in-ok-check.ensures in
+    let z = c.sector_size-size.ensures in
+    let ok = passed (cut k bytes) s _ _ len c.count-count.ensures z c.in_ok-check.ensures in
     omega (arith, inside k bytes s (below k bytes s len ok), fits k bytes s len ok, ap (λ n. s * n) z)
 
 pub returns : goal.returns
@@ -22,10 +22,10 @@ returns c =
     let bytes = c.args.self.now.bytes.now in
     let s = c.args.sector in
     let buffer = c.args.buffer.now in
-    let z = c.sector-size-size.ensures in
-    let ok = passed (cut k bytes) s _ _ (length buffer) c.count-count.ensures z c.in-ok-check.ensures in
-    let put = c.copy-in.ensures in
-    let after = c.copy-in.new.self.bytes.now in
+    let z = c.sector_size-size.ensures in
+    let ok = passed (cut k bytes) s _ _ (length buffer) c.count-count.ensures z c.in_ok-check.ensures in
+    let put = c.copy_in.ensures in
+    let after = c.copy_in.new.self.bytes.now in
     let is =
     put.bytes_are_put
     ∙ ap (λ n. put_mid (s * n) (length buffer) bytes buffer) z

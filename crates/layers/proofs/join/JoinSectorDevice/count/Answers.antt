@@ -12,4 +12,4 @@ pub returns : goal.returns
 returns g c =
     let a = g.D.SectorDevice.meaning c.args.self.now.first in
     let b = g.E.SectorDevice.meaning c.args.self.now.second in
-    omega (arith, count_same a b (sym c.size.ensures ∙ c.if-size.false ∙ c.size-2.ensures), c.saturating-add.ensures, c.count-first.ensures, c.count.ensures)
+    omega (arith, count_same a b (sym c.size.ensures ∙ c.if-size.false ∙ c.size-2.ensures), c.saturating_add.ensures, c.count-first.ensures, c.count.ensures)

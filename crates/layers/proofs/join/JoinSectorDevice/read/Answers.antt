@@ -13,12 +13,12 @@ returns-then-sector-first g c =
     let b = g.E.SectorDevice.meaning c.args.self.now.second in
     let s = c.args.sector in
     let buffer = c.args.buffer.now in
-    let ok = passed (join_of a b) s _ _ (length buffer) c.count.ensures c.size.ensures c.in-ok-check.ensures in
+    let ok = passed (join_of a b) s _ _ (length buffer) c.count.ensures c.size.ensures c.in_ok-check.ensures in
     let below = (allows _ _ s (length buffer) ok).below in
     let p : s < length a.sectors = omega (arith, c.count-first.ensures) in
     let sh = shows_first a b s below p in
     record {
-      call_is_answered = c.pass-up.ensures ∙ ap passed_up c.read.ensures.call_is_answered ∙ answer_passed (join_of a b) a s s sh (length buffer) ok;
+      call_is_answered = c.pass_up.ensures ∙ ap passed_up c.read.ensures.call_is_answered ∙ answer_passed (join_of a b) a s s sh (length buffer) ok;
       device_stays = ap (λ (d : DeviceMeaning). join_of d b) c.read.ensures.device_stays;
       buffer_is_filled = c.read.ensures.buffer_is_filled ∙ read_passed (join_of a b) a s s sh buffer ok;
       devices_below_stay = (c.read.ensures.device_stays, refl);
@@ -30,7 +30,7 @@ returns-else-sector-first g c =
     let b = g.E.SectorDevice.meaning c.args.self.now.second in
     let s = c.args.sector in
     let buffer = c.args.buffer.now in
-    let ok = passed (join_of a b) s _ _ (length buffer) c.count.ensures c.size.ensures c.in-ok-check.ensures in
+    let ok = passed (join_of a b) s _ _ (length buffer) c.count.ensures c.size.ensures c.in_ok-check.ensures in
     let below = (allows _ _ s (length buffer) ok).below in
     let n = c.count-first.ensures in
     let j = s - length a.sectors in
@@ -38,7 +38,7 @@ returns-else-sector-first g c =
     let sh = shows_second a b s below p in
     record {
       call_is_answered =
-          c.pass-up-else-sector-first.ensures
+          c.pass_up-else-sector-first.ensures
           ∙ ap passed_up (c.read-else-sector-first.ensures.call_is_answered ∙ ap (λ k. answer b (s - k) (length buffer)) n)
           ∙ answer_passed (join_of a b) b s j sh (length buffer) ok;
       device_stays = ap (join_of a) c.read-else-sector-first.ensures.device_stays;

@@ -14,12 +14,12 @@ returns-then-sector-first g c =
     let b = g.E.SectorDevice.meaning c.args.self.now.second in
     let s = c.args.sector in
     let buffer = c.args.buffer.now in
-    let ok = passed (join_of a b) s _ _ (length buffer) c.count.ensures c.size.ensures c.in-ok-check.ensures in
+    let ok = passed (join_of a b) s _ _ (length buffer) c.count.ensures c.size.ensures c.in_ok-check.ensures in
     let below = (allows _ _ s (length buffer) ok).below in
     let p : s < length a.sectors = omega (arith, c.count-first.ensures) in
     let sh = shows_first a b s below p in
     record {
-      call_is_answered = c.pass-up.ensures ∙ ap passed_up c.write.ensures.call_is_answered ∙ answer_passed (join_of a b) a s s sh (length buffer) ok;
+      call_is_answered = c.pass_up.ensures ∙ ap passed_up c.write.ensures.call_is_answered ∙ answer_passed (join_of a b) a s s sh (length buffer) ok;
       sector_is_written =
           ap (λ (d : DeviceMeaning). join_of d b) c.write.ensures.sector_is_written
           ∙ write_passed (λ (d : DeviceMeaning). join_of d b) a s s sh buffer ok (writes_first a b s below p buffer);
@@ -36,7 +36,7 @@ returns-else-sector-first g c =
     let b = g.E.SectorDevice.meaning c.args.self.now.second in
     let s = c.args.sector in
     let buffer = c.args.buffer.now in
-    let ok = passed (join_of a b) s _ _ (length buffer) c.count.ensures c.size.ensures c.in-ok-check.ensures in
+    let ok = passed (join_of a b) s _ _ (length buffer) c.count.ensures c.size.ensures c.in_ok-check.ensures in
     let below = (allows _ _ s (length buffer) ok).below in
     let n = c.count-first.ensures in
     let j = s - length a.sectors in
@@ -44,7 +44,7 @@ returns-else-sector-first g c =
     let sh = shows_second a b s below p in
     record {
       call_is_answered =
-          c.pass-up-else-sector-first.ensures
+          c.pass_up-else-sector-first.ensures
           ∙ ap passed_up (c.write-else-sector-first.ensures.call_is_answered ∙ ap (λ k. answer b (s - k) (length buffer)) n)
           ∙ answer_passed (join_of a b) b s j sh (length buffer) ok;
       sector_is_written =

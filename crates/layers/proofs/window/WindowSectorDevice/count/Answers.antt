@@ -5,4 +5,4 @@ use Rattle.layers.proofs.window.WindowSectorDevice.count.Goals as goal
 pub returns : goal.returns
 returns g c =
     let w = c.args.self.now in
-    omega (arith, count_is w.start w.wanted (g.D.SectorDevice.meaning w.device), c.min.ensures, c.saturating-sub.ensures, c.count.ensures)
+    omega (arith, count_is w.start w.wanted (g.D.SectorDevice.meaning w.device), c.min.ensures, c.saturating_sub.ensures, c.count.ensures)

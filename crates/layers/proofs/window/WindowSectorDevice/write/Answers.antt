@@ -6,14 +6,14 @@ use Rattle.layers.specs.Window.{window_of}
 use Rattle.layers.proofs.Windows.{shows, writes}
 use Rattle.layers.proofs.window.WindowSectorDevice.write.Goals as goal
 
-pub overflow-add-self : goal.overflow-add-self
-overflow-add-self g c =
+pub overflow_add-self : goal.overflow_add-self
+overflow_add-self g c =
     let w = c.args.self.now in
     let m = g.D.SectorDevice.meaning w.device in
     let layer = window_of w.start w.wanted in
     let s = c.args.sector in
     let buffer = c.args.buffer.now in
-    let ok = passed (layer m) s _ _ (length buffer) c.count.ensures c.size.ensures c.in-ok-check.ensures in
+    let ok = passed (layer m) s _ _ (length buffer) c.count.ensures c.size.ensures c.in_ok-check.ensures in
     let below = (allows _ _ s (length buffer) ok).below in
     let sh = shows w.start w.wanted m s below in
     omega (arith, sh.below, (g.D.SectorDevice.sound w.device).countable)
@@ -25,11 +25,11 @@ returns g c =
     let layer = window_of w.start w.wanted in
     let s = c.args.sector in
     let buffer = c.args.buffer.now in
-    let ok = passed (layer m) s _ _ (length buffer) c.count.ensures c.size.ensures c.in-ok-check.ensures in
+    let ok = passed (layer m) s _ _ (length buffer) c.count.ensures c.size.ensures c.in_ok-check.ensures in
     let below = (allows _ _ s (length buffer) ok).below in
     let sh = shows w.start w.wanted m s below in
     record {
-      call_is_answered = c.pass-up.ensures ∙ ap passed_up c.write.ensures.call_is_answered ∙ answer_passed (layer m) m s (w.start + s) sh (length buffer) ok;
+      call_is_answered = c.pass_up.ensures ∙ ap passed_up c.write.ensures.call_is_answered ∙ answer_passed (layer m) m s (w.start + s) sh (length buffer) ok;
       sector_is_written = ap layer c.write.ensures.sector_is_written ∙ write_passed layer m s (w.start + s) sh buffer ok (writes w.start w.wanted m s below buffer);
       place_stays = (refl, refl);
       device_below_is_written = c.write.ensures.sector_is_written ∙ below_written (layer m) m s (w.start + s) sh buffer ok;
