@@ -10,7 +10,7 @@ returns c =
     let m = broken_of b.count b.fault in
     let s = c.args.sector in
     let buffer = c.args.buffer.now in
-    let ok = passed m s _ _ (length buffer) c.count.ensures c.size.ensures c.in-ok-check.ensures in
+    let ok = passed m s _ _ (length buffer) c.count.ensures c.size.ensures c.in_ok-check.ensures in
     let refusal = refuses b.count b.fault s (length buffer) ok in
     record {
       call_is_answered = refusal;
