@@ -1,5 +1,5 @@
 -- Which command a line stands for.
-use Rattle.std.specs.Prelude.{ℕ, cond, List, [], ◌∷◌, length, Some, None, Ok, Err, Option, Result, ◌==◌}
+use Rattle.std.specs.Prelude.{ℕ, cond, List, length, Some, None, Ok, Err, Option, Result, ◌==◌}
 use Rattle.commands.specs.declared.command.Command.{Command}
 use Rattle.commands.specs.declared.command.Command.TheVariants.{Image, Load, Fault, Volume, Open, Read, Write, Begin, Step, Report, Show, Save, Help}
 use Rattle.commands.specs.declared.command.Wrong.{Wrong}

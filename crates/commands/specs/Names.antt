@@ -1,5 +1,5 @@
 -- The fixed words of the language.
-use Rattle.std.specs.Prelude.{ℕ, cond, List, [], ◌∷◌, Some, None, codes, Option}
+use Rattle.std.specs.Prelude.{ℕ, cond, List, Some, None, codes, Option}
 use Rattle.std.specs.Str.{bytes_eq}
 use Rattle.commands.specs.declared.names.Verb.{Verb}
 use Rattle.commands.specs.declared.names.Verb.TheVariants as verbs

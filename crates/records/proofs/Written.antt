@@ -1,5 +1,5 @@
 -- The record of a task reads as that task.
-use Rattle.std.proofs.Common.{◌≡◌, ℕ, ◌+◌, ◌*◌, ◌/◌, ◌%◌, ◌≤◌, Bool, true, cond, leb, List, [], ◌∷◌, ◌++◌, length, take, drop, Some, None, Option, sym, refl, ap, ◌∙◌, arith, length-append}
+use Rattle.std.proofs.Common.{◌≡◌, ℕ, ◌+◌, ◌*◌, ◌/◌, ◌%◌, ◌≤◌, leb, List, [], ◌∷◌, ◌++◌, length, take, Some, None, sym, refl, ap, ◌∙◌, arith, length-append}
 use Rattle.std.proofs.lemmas.List.{take_at, drop_at}
 use Rattle.std.proofs.lemmas.Bool.{cond-true, le-leb}
 use Rattle.records.specs.declared.Mode.{Mode}
@@ -9,7 +9,7 @@ use Rattle.records.specs.declared.Cipher.TheVariants.{Aes128, Xtea, Mask1, Mask8
 use Rattle.records.specs.declared.Direction.{Direction}
 use Rattle.records.specs.declared.Direction.TheVariants.{Encipher, Decipher}
 use Rattle.records.specs.Codes.{mode_named, cipher_named, direction_named}
-use Rattle.records.specs.Record.{Part, Task, split, named, fields, mapped}
+use Rattle.records.specs.Record.{split, mapped}
 use Rattle.records.specs.Writing.{mode_code, cipher_code, direction_code, behind_length, record_of, Reading}
 use Rattle.records.proofs.Fronts.{fields_are}
 

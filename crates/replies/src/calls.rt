@@ -20,16 +20,16 @@ const LARGEST: usize = 4096;
 
 /// Opens the volume.
 pub fn open<D: SectorDevice, M: WideMode>(volume: &mut Volume<D, M>, key: &[u8]) -> Answer<Vec<u8>>
-    ensures call_is_told { result ≡ tells.called (named names.Open (open_answer kind (view meaning state volume.old) key.now)) }
-    ensures volume_is_opened { view meaning state volume.new ≡ after_open kind (view meaning state volume.old) key.now }
+    ensures call_is_told { result ≡ tells.called (named names.Open (open_answer M.kind (view D.meaning M.state volume.old) key.now)) }
+    ensures volume_is_opened { view D.meaning M.state volume.new ≡ after_open M.kind (view D.meaning M.state volume.old) key.now }
 {
     called(volume.open(key))
 }
 
 /// Begins a sweep.
 pub fn begin<D: SectorDevice, M: WideMode>(volume: &mut Volume<D, M>, key: &[u8]) -> Answer<Vec<u8>>
-    ensures call_is_told { result ≡ tells.called (named names.Begin (begin_answer kind (view meaning state volume.old) key.now)) }
-    ensures sweep_is_begun { view meaning state volume.new ≡ after_begin kind (view meaning state volume.old) key.now }
+    ensures call_is_told { result ≡ tells.called (named names.Begin (begin_answer M.kind (view D.meaning M.state volume.old) key.now)) }
+    ensures sweep_is_begun { view D.meaning M.state volume.new ≡ after_begin M.kind (view D.meaning M.state volume.old) key.now }
 {
     called(volume.begin(key))
 }
@@ -38,8 +38,8 @@ fn steps<D: SectorDevice, M: WideMode>(
     volume: &mut Volume<D, M>,
     count: u32,
 ) -> Result<(), VolumeFault>
-    ensures steps_are_answered { result ≡ steps_answer kind (view meaning state volume.old) count }
-    ensures steps_are_made { view meaning state volume.new ≡ after_steps kind (view meaning state volume.old) count }
+    ensures steps_are_answered { result ≡ steps_answer M.kind (view D.meaning M.state volume.old) count }
+    ensures steps_are_made { view D.meaning M.state volume.new ≡ after_steps M.kind (view D.meaning M.state volume.old) count }
 {
     let mut left = count;
     while left > 0 {
@@ -54,8 +54,8 @@ fn steps<D: SectorDevice, M: WideMode>(
 
 /// Makes steps, as far as the first that is refused.
 pub fn step<D: SectorDevice, M: WideMode>(volume: &mut Volume<D, M>, count: u32) -> Answer<Vec<u8>>
-    ensures steps_are_told { result ≡ tells.called (steps_answer kind (view meaning state volume.old) count) }
-    ensures steps_are_made { view meaning state volume.new ≡ after_steps kind (view meaning state volume.old) count }
+    ensures steps_are_told { result ≡ tells.called (steps_answer M.kind (view D.meaning M.state volume.old) count) }
+    ensures steps_are_made { view D.meaning M.state volume.new ≡ after_steps M.kind (view D.meaning M.state volume.old) count }
 {
     called(steps(volume, count))
 }
@@ -66,8 +66,8 @@ pub fn read<D: SectorDevice, M: WideMode>(
     volume: &mut Volume<D, M>,
     sector: u32,
 ) -> Result<Answer<Vec<u8>>, AllocError>
-    ensures sector_is_told { IfOk result (λ a. listed vec_items a ≡ read_answer (volume_of kind (view meaning state volume.old)) sector) }
-    ensures volume_stays { view meaning state volume.new ≡ view meaning state volume.old }
+    ensures sector_is_told { IfOk result (λ a. listed vec_items a ≡ read_answer (volume_of M.kind (view D.meaning M.state volume.old)) sector) }
+    ensures volume_stays { view D.meaning M.state volume.new ≡ view D.meaning M.state volume.old }
 {
     let size = volume.size() as usize;
     let mut scratch = [0; LARGEST];
@@ -87,15 +87,15 @@ pub fn write<D: SectorDevice, M: WideMode>(
     sector: u32,
     bytes: &[u8],
 ) -> Answer<Vec<u8>>
-    ensures write_is_told { result ≡ tells.wrote (answer (volume_of kind (view meaning state volume.old)) sector (length bytes.now)) }
-    ensures enciphered_below { view meaning state volume.new ≡ after_write_to kind (view meaning state volume.old) sector bytes.now }
+    ensures write_is_told { result ≡ tells.wrote (answer (volume_of M.kind (view D.meaning M.state volume.old)) sector (length bytes.now)) }
+    ensures enciphered_below { view D.meaning M.state volume.new ≡ after_write_to M.kind (view D.meaning M.state volume.old) sector bytes.now }
 {
     wrote(volume.write(sector, bytes))
 }
 
 /// Tells what the volume is doing.
 pub fn report<D: SectorDevice, M: WideMode>(volume: &Volume<D, M>) -> Answer<Vec<u8>>
-    ensures phase_is_told { result ≡ tells.reported (view meaning state volume.now).phase }
+    ensures phase_is_told { result ≡ tells.reported (view D.meaning M.state volume.now).phase }
 {
     reported(volume.report())
 }

@@ -1,18 +1,17 @@
-use Rattle.std.proofs.Common.{◌≡◌, ℕ, ◌+◌, Bool, false, cond, List, [], drop, Some, None, codes, Option, sym, ap, ◌∙◌, arith}
-use Rattle.std.specs.Str.{bytes_eq}
-use Rattle.texts.specs.Hexadecimal.{bytes_of, pairs_on}
+use Rattle.std.proofs.Common.{◌+◌, drop, sym, ap, ◌∙◌, arith}
+use Rattle.texts.specs.Hexadecimal.{pairs_on}
 use Rattle.texts.proofs.Pairs.{pair_none, pair_more, pair_half, pair_end, no_dash}
 use Rattle.texts.proofs.hexadecimal.bytes.Goals as goal
 
-pub returns-in-default : goal.returns-in-default
-returns-in-default c =
-    sym (no_dash _ (sym c.if-is.ensures) ∙ c.loop-i.invariant.1 ∙ pair_none _ _ _ c.loop-i-test.true (sym c.in-default.ensures))
+pub returns-in_default : goal.returns-in_default
+returns-in_default c =
+    sym (no_dash _ (sym c.if-is.ensures) ∙ c.loop-i.invariant.1 ∙ pair_none _ _ _ c.loop-i-test.true (sym c.in_default.ensures))
 
 pub loop-i-preserved : goal.loop-i-preserved
 loop-i-preserved c = (
   omega arith,
   c.loop-i.invariant.1 ∙ pair_more _ _ _ _ c.loop-i-test.true (sym c.in-Some.ensures)
-      ∙ ap (λ l. pairs_on l (drop (c.loop-i.i + 2) c.args.word.now)) (sym c.in-ok-push.ensures.items),
+      ∙ ap (λ l. pairs_on l (drop (c.loop-i.i + 2) c.args.word.now)) (sym c.in_ok-push.ensures.items),
 )
 
 pub returns-then-i-word : goal.returns-then-i-word

@@ -1,14 +1,14 @@
-use Rattle.std.proofs.Common.{◌≡◌, ℕ, ◌+◌, ◌/◌, ◌%◌, List, [], ◌∷◌, ◌++◌, get_or, drop, string_bytes, sym, ap, ◌∙◌, append-nil, arith}
-use Rattle.texts.specs.Hexadecimal.{pairs_of, digit_of}
+use Rattle.std.proofs.Common.{◌+◌, ◌∷◌, ◌++◌, drop, string_bytes, sym, ap, ◌∙◌, append-nil}
+use Rattle.texts.specs.Hexadecimal.{pairs_of}
 use Rattle.texts.proofs.Pairs.{pushed, written_at, written_end}
 use Rattle.texts.proofs.hexadecimal.push_pairs.Goals as goal
 
 pub loop-byte-preserved : goal.loop-byte-preserved
 loop-byte-preserved c =
-    let one = c.in-ok-push.ensures.bytes in
-    let first = c.in-ok-push.ensures.ascii c.digit.ensures.one_byte in
-    let two = c.in-ok-push-2.ensures.bytes in
-    let second = c.in-ok-push-2.ensures.ascii c.digit-in-loop-byte.ensures.one_byte in
+    let one = c.in_ok-push.ensures.bytes in
+    let first = c.in_ok-push.ensures.ascii c.digit.ensures.one_byte in
+    let two = c.in_ok-push-2.ensures.bytes in
+    let second = c.in_ok-push-2.ensures.ascii c.digit-in-loop-byte.ensures.one_byte in
     let both = pushed _ _ _ (pairs_of (drop (c.loop-byte.byte-index + 1) c.args.bytes.now)) _ _ (one ∙ ap (λ l. string_bytes c.loop-byte.text ++ l) first) (two ∙ ap (λ l. string_bytes c.push.new.self ++ l) second) in
     let high = c.digit.ensures.digit_is_told in
     let low = c.digit-in-loop-byte.ensures.digit_is_told in

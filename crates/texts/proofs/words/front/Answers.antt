@@ -1,4 +1,4 @@
-use Rattle.std.proofs.Common.{◌≡◌, sym, ◌∙◌, arith}
+use Rattle.std.proofs.Common.{sym, ◌∙◌, arith}
 use Rattle.texts.proofs.Fronts.{front_more, front_stop, front_end}
 use Rattle.texts.proofs.words.front.Goals as goal
 
