@@ -6,7 +6,7 @@
 # Needs the Rattle kit, a C compiler and OpenSSL's headers (Debian: libssl-dev). Run it on a machine that does nothing else.
 set -euo pipefail
 cd "$(dirname "$0")/.."
-rt check bench >&2
+(cd crates/bench && rt check >&2)
 build=$(mktemp -d)
 trap 'rm -rf "$build"' EXIT
 compilers=("$@")
@@ -17,7 +17,7 @@ fi
 for cc in "${compilers[@]}"; do
   "$cc" -O3 -o "$build/peers-$cc" tools/peers.c -lcrypto
 done
-./target/bin/bench > "$build/ours"
+(cd crates/bench && rt run > "$build/ours")
 for cc in "${compilers[@]}"; do
   "$build/peers-$cc" > "$build/theirs"
   echo "peers built by $("$cc" --version | head -n 1)"

@@ -22,7 +22,7 @@ OPERATORS = {
     ".encipher(": ".decipher(", ".decipher(": ".encipher(", "encipher(": "decipher(", "is_ok()": "is_err()", "rotate_right": "rotate_left",
     ".min(": ".max(", ".max(": ".min(", ".add(": ".multiply(", "(0..": "(1..", "first": "second", "current": "next", "next": "current",
 }
-NOT_CODE = re.compile(r"^\s*(//|ghost |law |use |pub use |mod |pub mod |#|requires|ensures|pub (const )?fn |fn |pub (struct|enum|trait)|pub impl|impl|$)")
+NOT_CODE = re.compile(r"^\s*(//|ghost |use |pub use |mod |pub mod |#|requires|ensures|pub (const )?fn |fn |pub (struct|enum|trait)|impl|$)")
 
 
 def places(text):
@@ -33,7 +33,7 @@ def places(text):
     found, at, clause = [], 0, False
     for line in text.splitlines(keepends=True):
         code = line.split("//")[0]
-        if not NOT_CODE.match(line) and "⌜" not in line:
+        if not NOT_CODE.match(line):
             for old, new in OPERATORS.items():
                 for m in re.finditer(re.escape(old), code):
                     if old.isalpha() and re.match(r"\w", code[m.end():m.end() + 1] or " "):
@@ -56,7 +56,7 @@ def places(text):
 
 
 def check(tree, crate):
-    run = subprocess.run(["rt", "dev", crate], cwd=tree, capture_output=True, text=True)
+    run = subprocess.run(["rt", "check"], cwd=tree / "crates" / crate, capture_output=True, text=True)
     return run.returncode, run.stdout + run.stderr
 
 
@@ -65,7 +65,7 @@ def verdict(code, log, crate):
         return "PROVED"
     lines = [l for l in log.splitlines() if "error" in l or "no proof" in l or "not proved" in l]
     first = next((l for l in lines if "error" in l), lines[0] if lines else "")
-    if re.search(r"/src/\S+: error\[", log) or "syntax" in first or "rt: usage" in log:
+    if re.search(r"^(\./)?src/\S+: error", log, re.MULTILINE) or "syntax" in first or "rt: usage" in log:
         return "no compile"
     if re.search(r"has no field|can be named|is not declared|not asked for|no step", first):
         return "unfit"
