@@ -47,7 +47,14 @@ pub trait Word: Copy {
 
     /// The polynomial divided by x^by, without its lowest `by` coefficients.
     fn lowered(self, by: u32) -> Self
-        ensures { value result ≡ value self / 2 ^ by };
+        ensures { value result ≡ value self / 2 ^ by }
+    {
+        let mut low = self;
+        for i in 0..by {
+            low = low.halved();
+        }
+        low
+    }
 
     /// The highest bit, as a word.
     fn top(self) -> Self
