@@ -2,7 +2,7 @@
 use Rattle.std.proofs.Common.{◌≡◌, ℕ, ◌<◌, List, length, Ok, sym, refl, ap, ◌∙◌}
 use Rattle.devices.specs.Faults.{Answer, checked, passed_up, by_answer}
 use Rattle.devices.specs.Device.{DeviceMeaning, Sector, live, faulty, sector_at, shown, standing, bytes_of, answer, written, written_if, after_read, after_write}
-use Rattle.devices.proofs.Answers.{Allows, allows, allowed, stands}
+use Rattle.devices.proofs.Answers.{allows, allowed, stands}
 
 -- sector i of the layer l shows sector j of the device m
 pub record Shows (l m : DeviceMeaning) (i j : ℕ) : Type 0 where

@@ -4,7 +4,7 @@ use Rattle.std.specs.List.{range_with_len}
 use Rattle.std.proofs.lemmas.List.{length-set, get_or-set_same, get_or-set_other, ext_get_or}
 use Rattle.std.proofs.lemmas.List.FromFn.{length-map-range_with_len, get_or-map-range_with_len}
 use Rattle.std.proofs.lemmas.Bool.{cases_eq}
-use Rattle.devices.specs.Device.{DeviceMeaning, Sector, live, faulty, sector_at, shown, SectorFits, Sound, written, device_of}
+use Rattle.devices.specs.Device.{Sector, live, faulty, sector_at, shown, SectorFits, Sound, written, device_of}
 
 -- a sector shown by a layer is as whole as it was
 pub fits_shown : (size : ℕ) (x : Sector) → SectorFits size x → SectorFits size (shown x)

@@ -1,5 +1,5 @@
 -- A list that began empty holds no number twice.
-use Rattle.std.proofs.Common.{◌≡◌, ℕ, ◌+◌, false, cond, ltb, List, [], ◌∷◌, ◌++◌, length, arith}
+use Rattle.std.proofs.Common.{◌≡◌, ℕ, false, cond, ltb, List, [], ◌∷◌, ◌++◌, length, arith}
 use Rattle.std.proofs.lemmas.List.{length_push}
 use Rattle.std.proofs.lemmas.Bool.{cond_both, eqb-false}
 use Rattle.fault_lists.specs.Held.{is_held, full, entered, after_enter, after_enters, Bounded, AlwaysBounded}

@@ -1,5 +1,5 @@
 -- What Ψ and its inverse write into a buffer.
-use Rattle.std.proofs.Common.{◌≡◌, ℕ, zero, suc, ◌+◌, ◌-◌, ◌*◌, ◌/◌, ◌%◌, ◌<◌, ◌≤◌, List, [], ◌∷◌, ◌++◌, length, take, drop, sym, refl, ap, ◌∙◌, ap₂, append_assoc, append-nil, mod-eq_of_lt, suc-mul, add-one, arith, length-append, length-drop, length-take}
+use Rattle.std.proofs.Common.{◌≡◌, ℕ, zero, suc, ◌+◌, ◌-◌, ◌*◌, ◌/◌, ◌%◌, List, [], ◌∷◌, ◌++◌, length, take, drop, sym, refl, ap, ◌∙◌, ap₂, append_assoc, append-nil, mod-eq_of_lt, suc-mul, add-one, arith, length-append, length-drop, length-take}
 use borrow.Rule.Slice.PartMut.{put_mid}
 use lib.Bits.{bit_xor}
 use Rattle.std.specs.Int.Digits.{number_from_digits, AllBelowBase}
@@ -8,7 +8,7 @@ use Rattle.std.proofs.lemmas.List.{take_at, drop_at, drop_all, take-take, drop-t
 use Rattle.rings.specs.Blocks.{bytes_of, block_at, first_blocks, blocks}
 use Rattle.rings.specs.Ring.{RingKind, size, times}
 use Rattle.rings.specs.Sums.{power}
-use Rattle.rings.proofs.Bytes.{length_bytes_of, block_below, blocks_more}
+use Rattle.rings.proofs.Bytes.{block_below, blocks_more}
 use Rattle.rings.proofs.Total.{times_comm, times_assoc}
 use Rattle.passes.specs.Passes.{placewise, plus, whitened_at}
 use Rattle.passes.specs.Sector.{Sector, bytes, rowwise}

@@ -1,5 +1,5 @@
 -- Ψ and its inverse on lists of blocks.
-use Rattle.std.proofs.Common.{◌≡◌, ℕ, zero, suc, ◌+◌, ◌-◌, ◌*◌, ◌^◌, ◌<◌, ◌≤◌, List, [], ◌∷◌, ◌++◌, map, length, get_or, take, sym, refl, ap, ◌∙◌, ap₂, arith, length-append, length-take}
+use Rattle.std.proofs.Common.{◌≡◌, ℕ, ◌+◌, ◌-◌, ◌*◌, ◌<◌, List, [], ◌∷◌, ◌++◌, map, length, get_or, take, sym, refl, ap, ◌∙◌, ap₂, arith, length-append, length-take}
 use lib.Bits.{bit_xor, xor_assoc, xor_lt}
 use lib.ListN.{length-map}
 use Rattle.std.specs.Int.Digits.{AllBelowBase}
@@ -10,7 +10,6 @@ use Rattle.rings.specs.Sums.{power, hash_sum}
 use Rattle.rings.proofs.Blending.{cancel}
 use Rattle.rings.proofs.Powers.{hash_sum_below}
 use Rattle.rings.proofs.Total.{times_below}
-use Rattle.passes.specs.Passes.{placewise}
 use Rattle.passes.specs.Sector.{Sector}
 use Rattle.passes.proofs.Stages.{Sound, length_placewise, placewise_back, under_placewise, under_map, map_back}
 use Rattle.heh_theory.specs.Heh.{front, last, offset_at, offset, middle, psi, middle_back, front_back, psi_back, wrapped, on_blocks}

@@ -1,9 +1,8 @@
 -- What is refused, and what is not.
-use Rattle.std.proofs.Common.{◌≡◌, ℕ, ◌<◌, Bool, true, false, cond, eqb, List, length, Some, None, Ok, Err, Option, sym, refl, ap, ◌∙◌, ap₂, ⊎_elim, arith}
+use Rattle.std.proofs.Common.{◌≡◌, ℕ, true, false, eqb, List, length, Some, None, Ok, Err, Option, refl, ap, ◌∙◌, ap₂, ⊎_elim, arith}
 use Rattle.std.proofs.lemmas.Bool.{cases_Bool, cases_eq, eq-eqb, ne_eqb, cond-true, cond-false, cond_both}
 use Rattle.rings.specs.Ring.{RingKind}
 use Rattle.ciphers.specs.Cipher.{CipherKind, fits}
-use Rattle.ciphers.specs.declared.KeyFault.TheVariants.{WrongLength as WrongKeyLength}
 use Rattle.modes.specs.Faults.{answered}
 use Rattle.modes.specs.Mode.{Keyed, obstacle, ciphered, ModeKind, Fitting}
 use Rattle.modes.specs.declared.ModeFault.{ModeFault}

@@ -5,7 +5,7 @@ use Rattle.std.proofs.lemmas.List.{drop-take, drop-drop}
 use Rattle.std.proofs.lemmas.Slice.{take-put_mid_below, drop-put_mid, between-put_mid}
 use Rattle.std.proofs.lemmas.Bool.{cases_order}
 use Rattle.devices.specs.Faults.{Answer, checked, by_answer}
-use Rattle.devices.specs.Device.{DeviceMeaning, live, sector_at, standing, bytes_of, answer, after_read, after_write, device_of}
+use Rattle.devices.specs.Device.{live, sector_at, standing, bytes_of, answer, after_read, after_write, device_of}
 use Rattle.devices.proofs.Answers.{allows, stands, read_accepted, write_accepted}
 use Rattle.devices.proofs.Sectors.{sectors_counted, sector_of, written_of}
 use Rattle.images.specs.Image.{count_of, slice, cut, placed}

@@ -6,7 +6,7 @@ use Rattle.devices.specs.Device.{DeviceMeaning, Sector, live, sector_at, shown, 
 use Rattle.devices.proofs.Sectors.{sectors_counted, sector_of, written_of}
 use Rattle.devices.proofs.Passes.{Shows}
 use Rattle.layers.specs.Join.{added, join_count, join_sector, join_of}
-use Rattle.layers.specs.Sounds.{at_first, at_second, Second, in_second}
+use Rattle.layers.specs.Sounds.{at_first, at_second, in_second}
 
 module _ (a b : DeviceMeaning) where
   pub count_is : length (join_of a b).sectors ≡ join_count a b

@@ -1,5 +1,5 @@
 -- A row of bytes and its sector are the same thing.
-use Rattle.std.proofs.Common.{◌≡◌, ℕ, zero, suc, ◌+◌, ◌-◌, ◌*◌, ◌/◌, ◌%◌, ◌^◌, ◌<◌, ◌≤◌, true, List, [], ◌∷◌, ◌++◌, length, take, drop, sym, refl, ap, ◌∙◌, subst, ap₂, append_assoc, lt_of_lt_of_le, suc-mul, zero-mul, arith, length-append, length-drop, length-take, take-add}
+use Rattle.std.proofs.Common.{◌≡◌, ℕ, zero, suc, ◌+◌, ◌*◌, ◌/◌, ◌%◌, ◌^◌, ◌<◌, ◌≤◌, true, List, [], ◌∷◌, ◌++◌, length, take, drop, sym, refl, ap, ◌∙◌, subst, ap₂, append_assoc, lt_of_lt_of_le, suc-mul, zero-mul, arith, length-append, length-drop, length-take, take-add}
 use native.Mathlib.Nat.{pow-le-pow_right}
 use Rattle.std.specs.Int.Digits.{number_from_digits, AllBelowBase}
 use Rattle.std.proofs.lemmas.Nat.{div-mul-add, div-add-mod', mod_below}
@@ -7,7 +7,7 @@ use Rattle.std.proofs.lemmas.Int.Digits.{number_lt}
 use Rattle.std.proofs.ByRecursion.{All-append, All-take, All-drop}
 use Rattle.std.proofs.lemmas.List.{take_at, drop_at, take-append-drop}
 use Rattle.rings.specs.Blocks.{bytes_of, first_blocks}
-use Rattle.rings.specs.Ring.{RingKind, size}
+use Rattle.rings.specs.Ring.{RingKind}
 use Rattle.rings.specs.Rows.{row}
 use Rattle.rings.proofs.Bytes.{pow_bytes, length_bytes_of}
 use Rattle.rings.proofs.Rows.{row_is, row_parts, row_bytes_of, number_bytes_of, bytes_of_number}

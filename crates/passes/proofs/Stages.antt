@@ -1,5 +1,5 @@
 -- What the passes keep of a sector, and what undoes them.
-use Rattle.std.proofs.Common.{◌≡◌, ℕ, zero, suc, ◌+◌, ◌-◌, ◌*◌, ◌^◌, ◌<◌, ◌≤◌, List, [], ◌∷◌, ◌++◌, map, length, get_or, replicate, sym, refl, ap, ◌∙◌, subst, ap₂, arith, lit<, length-append, pow_pos}
+use Rattle.std.proofs.Common.{◌≡◌, ℕ, zero, suc, ◌+◌, ◌-◌, ◌*◌, ◌^◌, ◌<◌, List, [], ◌∷◌, ◌++◌, map, length, get_or, replicate, sym, refl, ap, ◌∙◌, subst, arith, lit<, length-append, pow_pos}
 use lib.Bits.{bit_xor, xor_lt}
 use lib.ListN.{length-map, length-replicate}
 use Rattle.std.specs.Int.Digits.{number_from_digits, AllBelowBase}

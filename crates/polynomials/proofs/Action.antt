@@ -1,10 +1,10 @@
 -- The value b(X) a of a polynomial b in a linear map X, and its laws: linear in b and in a, and such maps commute.
 --
-use Rattle.std.proofs.Common.{◌≡◌, ℕ, zero, suc, ◌+◌, ◌*◌, ◌/◌, ◌%◌, ◌^◌, ◌<◌, ◌≤◌, sym, refl, ap, ◌∙◌, ap₂, le_refl, not-suc-le-zero, mod-lt, zero-lt-suc, mul_comm, one-mul, zero-mul, mul-one}
+use Rattle.std.proofs.Common.{◌≡◌, ℕ, zero, suc, ◌*◌, ◌/◌, ◌%◌, ◌<◌, ◌≤◌, sym, refl, ap, ◌∙◌, ap₂, le_refl, not-suc-le-zero, mod-lt, zero-lt-suc, one-mul, zero-mul, mul-one}
 use native.Mathlib.Nat.{mul-div_cancel_left, mul-mod_right}
 use native.Mathlib.Decide.{le_ind}
 use lib.Arith.{half_le, bin_ind}
-use lib.Bits.{bit_xor, xor_comm, xor_assoc, xor_self, xor_zero_r, xor_shr, xor_mod}
+use lib.Bits.{bit_xor, xor_self, xor_zero_r, xor_shr, xor_mod}
 use Rattle.polynomials.specs.Polynomial.{action_in, action, clmul, times_x}
 use Rattle.polynomials.proofs.Xor.{swap4, times_x_xor, low_high, bit_xor_mul, xor_bit, bit_over}
 

@@ -1,18 +1,17 @@
 -- Euclid's algorithm on polynomials, one subtraction at a time, beside the coefficients modulo x^n + r.
 --
-use Rattle.std.proofs.Common.{◌≡◌, ℕ, zero, suc, ◌+◌, ◌-◌, ◌*◌, ◌/◌, ◌%◌, ◌^◌, ◌<◌, ◌≤◌, ◌≢◌, ◌⊎◌, sym, refl, ap, ◌∙◌, subst, ap₂, subst₂, inl, inr, le_trans, le_refl, lt_of_lt_of_le, le_of_suc-le-suc, not-suc-le-zero, le_of_lt, mul-le-mul_right, mod-lt, mod-eq_of_lt, zero-lt-suc, mul_assoc, mul_comm, div-lt_iff_lt-mul, suc-add, mul-lt-mul_of_pos_right, one-mul, mul-zero, div-add-mod', le-div_iff_mul-le, zero-add, zero-mul, mul-one, mul_left_comm, arith, pow_pos, pow_mono, pow-add}
+use Rattle.std.proofs.Common.{◌≡◌, ℕ, zero, suc, ◌+◌, ◌-◌, ◌*◌, ◌/◌, ◌%◌, ◌^◌, ◌<◌, ◌≤◌, ◌≢◌, sym, refl, ap, ◌∙◌, subst, ap₂, lt_of_lt_of_le, mul-le-mul_right, mod-lt, zero-lt-suc, mul_assoc, div-lt_iff_lt-mul, suc-add, mul-lt-mul_of_pos_right, one-mul, div-add-mod', le-div_iff_mul-le, zero-add, zero-mul, mul-one, mul_left_comm, arith, pow_pos, pow_mono, pow-add}
 use mathlib.Core.Path.{subst⁻¹}
 use native.Mathlib.Nat.{div-eq_of_lt, pow-succ', div-eq_of_lt-le}
 use native.Mathlib.Decide.{dec_lt}
-use lib.Arith.{bin_ind, lt-one}
+use lib.Arith.{bin_ind}
 use lib.Count.{count_leading_zeros}
 use Rattle.std.proofs.lemmas.Nat.{leading_top}
-use lib.Pow.{pow-lt}
-use lib.Bits.{bit_xor, xor_comm, xor_assoc, xor_self, xor_zero_r, xor_shr, xor_mod, xor_block, xor_shifted, xor_lt}
-use Rattle.polynomials.specs.Polynomial.{action, clmul, times_x, xtime, remainder, product}
-use Rattle.polynomials.proofs.Xor.{swap4, cancel, times_x_xor, low_high}
-use Rattle.polynomials.proofs.Action.{zero_clmul, one_clmul, times_x_clmul, clmul_one, clmul_comm, clmul_assoc, clmul_xor, xor_clmul, clmul_step}
-use Rattle.polynomials.proofs.Quotient.{divides, bit_below, remainder_zero, remainder_xor, remainder_small, remainder_lt, remainder_modulus, product_lt, product_comm, product_xor, product_one, product_assoc}
+use lib.Bits.{bit_xor, xor_comm, xor_shr, xor_block, xor_lt}
+use Rattle.polynomials.specs.Polynomial.{clmul, remainder, product}
+use Rattle.polynomials.proofs.Xor.{cancel}
+use Rattle.polynomials.proofs.Action.{zero_clmul, times_x_clmul, clmul_one, clmul_comm, clmul_assoc, clmul_xor, clmul_step}
+use Rattle.polynomials.proofs.Quotient.{divides, bit_below, remainder_zero, remainder_xor, remainder_small, remainder_modulus, product_lt, product_comm, product_xor, product_one, product_assoc}
 
 -- d divides a
 abbrev pub Divides : ℕ → ℕ → Type 0

@@ -1,13 +1,12 @@
 -- The inverse by Euclid's algorithm is found exactly where there is one, and there is at most one.
-use Rattle.std.proofs.Common.{◌≡◌, ℕ, zero, suc, ◌+◌, ◌-◌, ◌*◌, ◌%◌, ◌^◌, ◌<◌, ◌≤◌, Bool, true, false, cond, eqb, ltb, ◌≢◌, Some, None, Option, sym, refl, ap, ◌∙◌, subst, ⊎_elim, arith}
-use lib.Bits.{bit_xor, xor_lt}
-use lib.Count.{count_leading_zeros}
+use Rattle.std.proofs.Common.{◌≡◌, ℕ, zero, suc, ◌+◌, ◌^◌, ◌<◌, ◌≤◌, true, false, eqb, ltb, ◌≢◌, Some, None, Option, sym, refl, ap, ◌∙◌, subst, ⊎_elim, arith}
+use lib.Bits.{xor_lt}
 use lib.Pow.{pow-lt}
 use Rattle.std.proofs.lemmas.Bool.{cases_Bool, cond-true, cond-false, ltb-true, ltb-false, eqb-true, eqb-false}
 use Rattle.polynomials.specs.Inverse.{Remainders, ordered, gap, reduced, euclid, started, answered, inverse}
 use Rattle.polynomials.specs.Polynomial.{product}
 use Rattle.polynomials.proofs.Quotient.{product_lt, product_comm, product_assoc, product_one}
-use Rattle.polynomials.proofs.Euclid.{Bezout, Ordered, Turned, leads, exchanged, stayed, turned, first, last_found, last_none, none_zero}
+use Rattle.polynomials.proofs.Euclid.{Bezout, Ordered, leads, exchanged, stayed, turned, first, last_found, last_none, none_zero}
 
 module _ (n r : ℕ) (pos : 0 < n) (hr : r < 2 ^ n) where
   -- what every turn keeps

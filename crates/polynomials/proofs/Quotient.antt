@@ -1,14 +1,14 @@
 -- GF(2)[x] modulo 2^n + r, for any width n above 0 and any r below 2^n: `remainder` is the remainder, and `product` makes a ring.
 --
-use Rattle.std.proofs.Common.{◌≡◌, ℕ, zero, suc, ◌+◌, ◌*◌, ◌/◌, ◌%◌, ◌^◌, ◌<◌, ◌≤◌, sym, refl, ap, ◌∙◌, subst, ap₂, le_trans, le_refl, le_of_suc-le-suc, not-suc-le-zero, lt_of_le_of_lt, mod-lt, mod-eq_of_lt, zero-lt-suc, mul_comm, div-lt_iff_lt-mul, one-mul, pow-suc, div-add-mod', zero-add, zero-mul, mul-one, mul-add, arith, pow_pos}
+use Rattle.std.proofs.Common.{◌≡◌, ℕ, zero, suc, ◌+◌, ◌*◌, ◌/◌, ◌%◌, ◌^◌, ◌<◌, sym, refl, ap, ◌∙◌, ap₂, le_refl, le_of_suc-le-suc, not-suc-le-zero, mod-lt, mod-eq_of_lt, zero-lt-suc, div-lt_iff_lt-mul, one-mul, div-add-mod', zero-add, zero-mul, mul-one, mul-add, arith, pow_pos}
 use mathlib.Core.Path.{subst⁻¹}
-use native.Mathlib.Nat.{div-eq_of_lt, mul-lt-mul_of_pos_left, pow-succ', mod_self, div_self}
+use native.Mathlib.Nat.{div-eq_of_lt, pow-succ', mod_self, div_self}
 use lib.Arith.{bin_ind}
 use lib.Pow.{pow-lt}
 use lib.Bits.{bit_xor, xor_comm, xor_assoc, xor_self, xor_zero_r, xor_shr, xor_mod, xor_block, xor_lt, xor_shifted}
-use Rattle.polynomials.specs.Polynomial.{action_in, action, clmul, times_x, xtime, remainder, product}
-use Rattle.polynomials.proofs.Xor.{swap4, cancel, times_x_xor, low_high, bit_xor_mul, xor_bit, bit_over}
-use Rattle.polynomials.proofs.Action.{zero_action, action_step, action_xor, xor_action, action_times_x, action_one, action_at_zero, action_clmul, clmul_one, clmul_comm, clmul_assoc, clmul_xor, xor_clmul, clmul_step, zero_clmul, times_x_clmul, bit_clmul}
+use Rattle.polynomials.specs.Polynomial.{action, clmul, xtime, remainder, product}
+use Rattle.polynomials.proofs.Xor.{swap4, times_x_xor, low_high, bit_xor_mul}
+use Rattle.polynomials.proofs.Action.{zero_action, action_step, xor_action, action_times_x, action_one, action_at_zero, action_clmul, clmul_one, clmul_comm, clmul_assoc, clmul_xor, xor_clmul, zero_clmul, times_x_clmul, bit_clmul}
 
 bit : (b : ℕ) → b % 2 < 2
 bit b = mod-lt b (zero-lt-suc 1)

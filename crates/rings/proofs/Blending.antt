@@ -1,5 +1,5 @@
 -- One block added to each block of a row, and the hash sum: what the wide modes blend with, and what undoes it.
-use Rattle.std.proofs.Common.{◌≡◌, ℕ, zero, suc, ◌*◌, ◌%◌, ◌^◌, ◌<◌, List, [], ◌∷◌, map, length, Some, sym, refl, ap, ◌∙◌, ap₂}
+use Rattle.std.proofs.Common.{◌≡◌, ℕ, zero, suc, ◌*◌, ◌<◌, List, [], ◌∷◌, map, length, Some, sym, ap, ◌∙◌, ap₂}
 use lib.Bits.{bit_xor, xor_comm, xor_assoc, xor_self, xor_zero_l, xor_lt}
 use lib.ListN.{length-map}
 pub use Rattle.polynomials.proofs.Xor.{cancel}

@@ -1,6 +1,6 @@
 -- Blocks and their bytes.
-use Rattle.std.proofs.Common.{◌≡◌, ℕ, zero, suc, ◌+◌, ◌-◌, ◌*◌, ◌/◌, ◌%◌, ◌^◌, ◌<◌, ◌≤◌, List, [], ◌∷◌, ◌++◌, length, get_or, take, drop, set, sym, refl, ap, ◌∙◌, subst, ap₂, lt_of_lt_of_le, add-zero, mul-le-mul_right, mod-eq_of_lt, mul_assoc, suc-mul, mul_comm, pow-suc, zero-mul, mul-suc, div-mul-le_self, div-one, add-one, arith, length-append, length-take, pow_pos, pow-add}
-use native.Mathlib.Nat.{mul-add-mod_self_right, pow-le-pow_right, pow-succ', pow-zero, div-eq_of_lt, div-div-eq-div-mul, zero-mod}
+use Rattle.std.proofs.Common.{◌≡◌, ℕ, zero, suc, ◌+◌, ◌-◌, ◌*◌, ◌/◌, ◌%◌, ◌^◌, ◌<◌, ◌≤◌, List, [], ◌∷◌, ◌++◌, length, get_or, take, drop, set, sym, refl, ap, ◌∙◌, subst, ap₂, lt_of_lt_of_le, mul-le-mul_right, mod-eq_of_lt, mul_assoc, suc-mul, mul_comm, pow-suc, zero-mul, mul-suc, div-mul-le_self, div-one, add-one, arith, length-append, length-take, pow_pos, pow-add}
+use native.Mathlib.Nat.{mul-add-mod_self_right, pow-le-pow_right, pow-succ', pow-zero, div-eq_of_lt, div-div-eq-div-mul}
 use native.Mathlib.Decide.{dec_lt}
 use lib.Bits.{bit_and, bit_or, and_mask, or_shifted}
 use Rattle.std.specs.Int.Digits.{number_from_digits, AllBelowBase}

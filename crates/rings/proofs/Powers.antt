@@ -1,5 +1,5 @@
 -- What the loops over powers of τ do in a turn.
-use Rattle.std.proofs.Common.{◌≡◌, ℕ, zero, suc, ◌+◌, ◌*◌, ◌%◌, ◌^◌, ◌<◌, List, [], ◌∷◌, ◌++◌, length, sym, refl, ap, ◌∙◌, ap₂, add-zero, add-suc, add-one, arith, length-append, pow_pos}
+use Rattle.std.proofs.Common.{◌≡◌, ℕ, zero, suc, ◌+◌, ◌*◌, ◌<◌, List, [], ◌∷◌, ◌++◌, length, sym, refl, ap, ◌∙◌, ap₂, add-zero, add-suc, add-one, arith, length-append, pow_pos}
 use lib.Bits.{bit_xor, xor_assoc, xor_zero_l, xor_zero_r, xor_lt}
 use Rattle.rings.specs.Ring.{RingKind, size, times}
 use Rattle.rings.specs.Sums.{power, hash_sum, sigma}

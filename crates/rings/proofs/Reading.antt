@@ -1,12 +1,12 @@
 -- The bytes of a block of 16, read at once.
-use Rattle.std.proofs.Common.{◌≡◌, ℕ, zero, suc, ◌+◌, ◌-◌, ◌*◌, ◌%◌, ◌^◌, ◌<◌, ◌≤◌, min, List, [], ◌∷◌, ◌++◌, length, get_or, take, drop, replicate, sym, refl, ap, ◌∙◌, subst, ap₂, append-nil, mul_assoc, add-mul, zero-add, arith, length-append, length-drop, take-append-drop, take_all}
+use Rattle.std.proofs.Common.{◌≡◌, ℕ, zero, suc, ◌+◌, ◌-◌, ◌*◌, ◌%◌, ◌^◌, ◌≤◌, min, List, [], ◌∷◌, ◌++◌, length, get_or, take, drop, replicate, sym, refl, ap, ◌∙◌, subst, ap₂, append-nil, mul_assoc, add-mul, zero-add, arith, length-append, length-drop, take-append-drop, take_all}
 use native.Mathlib.Nat.{mul-add-mod_self_right, pow-zero, pow-succ'}
 use native.Mathlib.Decide.{dec_le}
 use lib.ListN.{length-replicate}
 use borrow.Rule.Slice.PartMut.{put_mid}
 use Rattle.std.specs.Int.Digits.{number_from_digits, number_from_digits_after}
 use Rattle.std.proofs.lemmas.Int.Digits.{number_after_append, number_more}
-use Rattle.std.proofs.lemmas.List.{take-replicate, drop_all, take_rest}
+use Rattle.std.proofs.lemmas.List.{take-replicate, drop_all}
 
 -- bytes after a number
 after : (n : ℕ) (ds : List ℕ) → number_from_digits_after 256 n ds ≡ n * 256 ^ length ds + number_from_digits 256 ds

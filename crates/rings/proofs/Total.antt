@@ -1,6 +1,5 @@
 -- The laws of a block ring without premises, for the product of any two numbers.
-use Rattle.std.proofs.Common.{◌≡◌, ℕ, ◌+◌, ◌*◌, ◌%◌, ◌^◌, ◌<◌, ◌≤◌, sym, refl, ap, ◌∙◌, ap₂, mod-lt, mod-eq_of_lt, arith, pow_pos}
-use native.Mathlib.Nat.{mod-mod, zero-mod}
+use Rattle.std.proofs.Common.{◌≡◌, ℕ, ◌*◌, ◌%◌, ◌<◌, sym, ap, ◌∙◌, ap₂, mod-lt, mod-eq_of_lt, arith, pow_pos}
 use lib.Bits.{bit_xor, xor_self, xor_mod}
 use lib.Pow.{pow-lt}
 use Rattle.rings.specs.Ring.{RingKind, size, times}

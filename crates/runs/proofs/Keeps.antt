@@ -2,7 +2,7 @@
 use Rattle.std.proofs.Common.{◌≡◌, ℕ, ◌+◌, ◌^◌, ◌<◌, ◌≤◌, Bool, true, false, cond, eqb, ltb, List, [], ◌∷◌, length, get_or, set, is_some, Some, None, Option, sym, refl, ap, ◌∙◌, subst, ⊎_elim, arith}
 use Rattle.std.proofs.lemmas.List.{length-set, get_or-set_same, get_or-set_other}
 use Rattle.std.proofs.lemmas.Bool.{cond-true, cond-false, cases_eq, cases_lt, lt-ltb, le-ltb, eq-eqb, ne_eqb, true≢false}
-use Rattle.devices.specs.Device.{DeviceMeaning, Sector, live, faulty, sector_at, written}
+use Rattle.devices.specs.Device.{DeviceMeaning, Sector, live, sector_at, written}
 use Rattle.modes.specs.Mode.{ModeKind, Keyed}
 use Rattle.volumes.specs.declared.phase.Phase.{Phase}
 use Rattle.volumes.specs.declared.phase.Phase.TheVariants.{Closed, Open, Sweeping}

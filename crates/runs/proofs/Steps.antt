@@ -1,5 +1,5 @@
 -- Each call keeps the facts, and answers what the law says.
-use Rattle.std.proofs.Common.{◌≡◌, ℕ, ◌+◌, ◌^◌, ◌<◌, Bool, true, false, cond, eqb, ltb, List, [], ◌∷◌, length, is_some, Some, None, Ok, Err, Option, Result, sym, refl, ap, ◌∙◌, ⊎_elim, arith}
+use Rattle.std.proofs.Common.{◌≡◌, ℕ, ◌+◌, ◌^◌, ◌<◌, Bool, true, false, cond, eqb, ltb, List, [], ◌∷◌, length, is_some, Some, None, Ok, Err, Option, sym, refl, ap, ◌∙◌, ⊎_elim, arith}
 use Rattle.std.proofs.lemmas.Bool.{cond-true, cases_eq, lt-ltb, ltb-true, ltb-false, eqb-false, true≢false}
 use Rattle.devices.specs.declared.fault.Fault.{Fault}
 use Rattle.devices.specs.declared.fault.Reason.TheVariants.{WrongLength, Closed as IsClosed}
@@ -7,7 +7,7 @@ use Rattle.devices.specs.Faults.{Answer, own, passed_up, and_then, by_answer}
 use Rattle.devices.specs.Device.{DeviceMeaning, Sector, live, faulty, sector_at, standing, bytes_of, answer, written}
 use Rattle.modes.specs.declared.ModeFault.{ModeFault}
 use Rattle.modes.specs.Mode.{ModeKind, Keyed}
-use Rattle.volumes.specs.declared.fault.CallName.TheVariants.{Open as OpenCall, Begin as BeginCall, Step as StepCall}
+use Rattle.volumes.specs.declared.fault.CallName.TheVariants.{Open as OpenCall, Begin as BeginCall}
 use Rattle.volumes.specs.declared.fault.Refusal.TheVariants.{NoSectors}
 use Rattle.volumes.specs.declared.phase.Phase.{Phase}
 use Rattle.volumes.specs.declared.phase.Phase.TheVariants.{Closed, Open, Sweeping}
@@ -15,8 +15,8 @@ use Rattle.volumes.specs.Faults.{named, key_answer, by_call}
 use Rattle.volumes.specs.Volume.{VolumeModel, takes, enciphered_by, deciphered_by, after_open, after_begin, after_step, rekeyed_at, is_closed, serving, opened, volume_of, with_device}
 use Rattle.volumes.proofs.Accepted as device
 use Rattle.volumes.proofs.Shown.{below, sector_is, answer_is}
-use Rattle.runs.specs.History.{Event, opens, reads, writes, begins, steps, reports, History, Sweep, deeds, open_key, sweeps, one_more, or_else, under_way, phase_by, phase_after, last_written, pair, plain, bytes_in}
-use Rattle.runs.specs.Runs.{Call, opening, reading, writing, beginning, stepping, reporting, after, event, with_bytes}
+use Rattle.runs.specs.History.{opens, writes, begins, History, Sweep, deeds, open_key, sweeps, one_more, or_else, under_way, phase_by, phase_after, last_written, pair, plain, bytes_in}
+use Rattle.runs.specs.Runs.{Call, opening, reading, writing, beginning, stepping, reporting, after, event}
 use Rattle.runs.proofs.Keys.{key_in}
 use Rattle.runs.proofs.Sectors.{Holds, Kept, read_sector}
 use Rattle.runs.proofs.Keeps as keeps

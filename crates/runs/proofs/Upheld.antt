@@ -2,15 +2,15 @@
 use Rattle.std.proofs.Common.{◌≡◌, ℕ, ◌^◌, ◌<◌, true, List, [], ◌∷◌, ◌++◌, length, is_some, Some, None, Ok, Err, Option, sym, refl, ap, ◌∙◌, subst}
 use Rattle.std.proofs.lemmas.Bool.{true≢false}
 use Rattle.devices.specs.Faults.{Answer}
-use Rattle.devices.specs.Device.{DeviceMeaning, Sector, sector_at, answer, bytes_of, Sound}
-use Rattle.modes.specs.Mode.{ModeKind, Keyed}
+use Rattle.devices.specs.Device.{DeviceMeaning, Sector, sector_at, answer, bytes_of}
+use Rattle.modes.specs.Mode.{ModeKind}
 use Rattle.volumes.specs.Volume.{VolumeModel, fresh, volume_of}
 use Rattle.runs.specs.History.{Event, opens, reads, writes, begins, steps, reports, History, Sweep, deeds, open_key, sweeps, or_else, phase_after, last_written, plain, bytes_in}
 use Rattle.runs.specs.Runs.{Call, opening, reading, writing, beginning, stepping, reporting, after, event, with_bytes, run, history}
 use Rattle.runs.specs.Law.{StoredAs, Upheld, VolumeLaw, UpheldOn}
 use Rattle.runs.proofs.Keys.{key_in}
 use Rattle.runs.proofs.Sectors.{Kept}
-use Rattle.runs.proofs.Keeps.{Facts, made}
+use Rattle.runs.proofs.Keeps.{made}
 use Rattle.runs.proofs.Steps.{After, one, read_right, report_right}
 
 module _ (k : ModeKind) (o : DeviceMeaning) where

@@ -1,12 +1,12 @@
 -- Blending with a hash key, and what undoes it.
 use Rattle.std.proofs.Common.{◌≡◌, ℕ, ◌*◌, ◌<◌, length, sym, refl, ap, ◌∙◌}
 use lib.Bits.{bit_xor, xor_lt}
-use Rattle.rings.specs.Ring.{RingKind, size, times}
+use Rattle.rings.specs.Ring.{RingKind, times}
 use Rattle.rings.specs.Sums.{hash_sum, sigma}
 use Rattle.rings.proofs.Blending.{back, forth}
 use Rattle.rings.proofs.Powers.{hash_sum_below}
 use Rattle.rings.proofs.Total.{times_below}
-use Rattle.passes.specs.Passes.{plus, added, tail_block}
+use Rattle.passes.specs.Passes.{plus, tail_block}
 use Rattle.passes.specs.Sector.{Sector}
 use Rattle.passes.proofs.Stages.{Sound, plus_plus, tail_below, added_sound}
 use Rattle.tet_theory.specs.Tet.{HashKey, blended, unblended}

@@ -1,5 +1,5 @@
 -- The blocks through the cipher, the last twice where there is a tail, and what undoes it.
-use Rattle.std.proofs.Common.{◌≡◌, ℕ, suc, ◌<◌, List, [], ◌∷◌, map, length, sym, refl, ap, ◌∙◌, arith}
+use Rattle.std.proofs.Common.{◌≡◌, ℕ, suc, ◌<◌, List, [], ◌∷◌, map, length, refl, ap, ◌∙◌, arith}
 use lib.ListN.{length-map}
 use Rattle.std.specs.Int.Digits.{AllBelowBase}
 use Rattle.rings.specs.Ring.{RingKind, size}

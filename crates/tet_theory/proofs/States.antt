@@ -1,14 +1,13 @@
 -- What is held, refused and answered.
-use Rattle.std.proofs.Common.{◌≡◌, ℕ, ◌+◌, ◌/◌, ◌<◌, ◌≤◌, Bool, true, false, cond, ◌&&◌, eqb, leb, List, ◌++◌, length, take, drop, Some, None, Ok, Err, Option, sym, refl, ap, ◌∙◌, arith, length-append}
+use Rattle.std.proofs.Common.{◌≡◌, ℕ, ◌/◌, ◌<◌, ◌≤◌, true, false, cond, eqb, leb, List, ◌++◌, length, Some, None, Ok, Err, Option, sym, refl, ap, ◌∙◌, arith, length-append}
 use Rattle.std.proofs.lemmas.List.{take_at, drop_at, take-append-drop}
-use Rattle.std.proofs.lemmas.Bool.{and_parts, and_from, and_left, and_right, leb-true, le-leb, lt-leb, eq-eqb, ne_eqb, cond-true, cond-false}
+use Rattle.std.proofs.lemmas.Bool.{and_parts, and_from, and_left, and_right, leb-true, le-leb, lt-leb, eq-eqb, cond-true, cond-false}
 use Rattle.rings.specs.Ring.{RingKind}
 use Rattle.rings.proofs.Rows.{row_parts}
 use Rattle.ciphers.specs.Cipher.{CipherKind, fits}
 use Rattle.ciphers.specs.declared.KeyFault.TheVariants.{WrongLength as WrongKeyLength}
 use Rattle.modes.specs.Faults.{answered}
-use Rattle.modes.specs.Mode.{ModeKind, Keyed, Fitting, keyed_after, ciphered, obstacle as obstacle_without}
-use Rattle.modes.specs.declared.ModeFault.{ModeFault}
+use Rattle.modes.specs.Mode.{ModeKind, Keyed, Fitting, ciphered, obstacle as obstacle_without}
 use Rattle.modes.specs.declared.ModeFault.TheVariants.{WrongLength, Key, WrongSize, NoInverse, WrongTweak}
 use Rattle.passes.specs.Sector.{rowwise}
 use Rattle.tet_theory.specs.State.{keyed_with, state_of, without_hash, refusal, obstacle}

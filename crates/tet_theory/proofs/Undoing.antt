@@ -1,5 +1,5 @@
 -- The two directions undo each other.
-use Rattle.std.proofs.Common.{◌≡◌, ℕ, ◌*◌, ◌/◌, ◌%◌, ◌<◌, Bool, true, false, cond, List, Some, None, Option, sym, refl, ap, ◌∙◌, subst, arith}
+use Rattle.std.proofs.Common.{◌≡◌, ℕ, ◌/◌, ◌%◌, ◌<◌, Bool, true, false, cond, List, Some, None, Option, refl, ap, ◌∙◌, subst, arith}
 use Rattle.std.proofs.lemmas.Bool.{and_parts}
 use Rattle.rings.specs.Ring.{RingKind, size, times}
 use Rattle.rings.specs.Rows.{row}
@@ -10,7 +10,7 @@ use Rattle.passes.specs.Passes.{whitened}
 use Rattle.passes.specs.Sector.{Sector}
 use Rattle.passes.proofs.Parts.{tail_short, rowwise_row, rowwise_undone}
 use Rattle.passes.proofs.Stages.{Sound, whitened_sound, whitened_back}
-use Rattle.tet_theory.specs.Tet.{HashKey, blended, unblended, crypted, enciphered, deciphered, hash_with, size_fits, hash_key, beta, first_key, second_key, key_fits, hash_for, on_rows, encipher, decipher}
+use Rattle.tet_theory.specs.Tet.{HashKey, blended, unblended, crypted, enciphered, deciphered, hash_with, size_fits, beta, first_key, second_key, key_fits, hash_for, on_rows, encipher, decipher}
 use Rattle.tet_theory.proofs.Blends.{blended_sound, unblended_sound, unblended_blended, blended_unblended}
 use Rattle.tet_theory.proofs.Lasts.{crypted_sound, crypted_back}
 

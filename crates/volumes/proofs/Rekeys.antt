@@ -1,8 +1,8 @@
 -- One sector re-enciphered below.
-use Rattle.std.proofs.Common.{◌≡◌, ℕ, ◌<◌, ◌≤◌, Bool, true, false, cond, ◌&&◌, List, [], length, set, is_ok, Ok, Err, Option, sym, refl, ap, ◌∙◌, ⊎_elim, arith}
+use Rattle.std.proofs.Common.{◌≡◌, ℕ, ◌<◌, ◌≤◌, Bool, true, false, cond, ◌&&◌, List, [], length, set, is_ok, Ok, Err, Option, sym, refl, ap, ◌∙◌, ⊎_elim}
 use Rattle.std.proofs.lemmas.List.{set-get_or, set_past}
 use Rattle.std.proofs.lemmas.Bool.{cases_lt, true≢false}
-use Rattle.devices.specs.Faults.{Answer, own, checked, and_then}
+use Rattle.devices.specs.Faults.{Answer, own, and_then}
 use Rattle.devices.specs.declared.fault.Reason.TheVariants.{WrongLength}
 use Rattle.devices.specs.Device.{DeviceMeaning, Sector, live, faulty, sector_at, standing, answer, written, after_read, after_write}
 use Rattle.devices.proofs.Answers.{allowed, stands, read_accepted, write_accepted}

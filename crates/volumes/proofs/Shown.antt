@@ -1,16 +1,15 @@
 -- What an open volume shows of the device below it.
-use Rattle.std.proofs.Common.{◌≡◌, ℕ, ◌^◌, ◌<◌, Bool, true, false, cond, List, [], length, get_or, set, Some, None, Ok, Err, Option, sym, refl, ap, ◌∙◌, arith}
+use Rattle.std.proofs.Common.{◌≡◌, ℕ, ◌^◌, ◌<◌, Bool, true, false, cond, List, [], length, Some, None, Ok, Err, Option, sym, refl, ap, ◌∙◌, arith}
 use Rattle.std.proofs.lemmas.List.{length-set, get_or-set_same, get_or-set_other}
 use Rattle.devices.specs.declared.fault.Fault.{Fault}
 use Rattle.devices.specs.declared.fault.Reason.TheVariants.{WrongLength, Closed as IsClosed}
 use Rattle.devices.specs.Faults.{Answer, own, checked, passed_up, and_then, by_answer}
-use Rattle.devices.specs.Device.{DeviceMeaning, Sector, live, faulty, sector_at, standing, bytes_of, answer, written, after_read, after_write, device_of}
-use Rattle.devices.proofs.Answers.{Allows, allows, allowed, stands}
+use Rattle.devices.specs.Device.{Sector, live, faulty, sector_at, standing, bytes_of, answer, written, after_read, after_write, device_of}
+use Rattle.devices.proofs.Answers.{allows, allowed, stands}
 use Rattle.devices.proofs.Sectors.{sectors_counted, sector_of, written_of}
 use Rattle.modes.specs.Mode.{ModeKind, Keyed, Fitting}
 use Rattle.modes.proofs.Total.{undone}
 use Rattle.volumes.specs.Volume.{VolumeModel, takes, mode_check, enciphered_by, deciphered_by, is_closed, serving, open_check, opened, volume_sector, volume_of, with_device, after_write_to}
-use Rattle.volumes.proofs.Accepted.{both, lives}
 
 standing_by : (k : ModeKind) (s : Option Keyed) (i : ℕ) (x : Sector) (shut ready : Bool) (f g : Fault)
     → standing (cond shut (faulty f) (cond ready (opened k s i x) (faulty g))) ≡ and_then (cond shut (Err f) (Ok tt)) (and_then (cond ready (Ok tt) (Err g)) (passed_up (standing x)))

@@ -1,5 +1,5 @@
 -- What the loops of the arithmetic do in a turn, over any width n and any modulus x^n + r.
-use Rattle.std.proofs.Common.{◌≡◌, ℕ, zero, suc, ◌+◌, ◌-◌, ◌*◌, ◌/◌, ◌%◌, ◌^◌, ◌<◌, ◌≤◌, ◌≢◌, sym, refl, ap, ◌∙◌, subst, ap₂, lt_of_lt_of_le, mod-lt, mod-eq_of_lt, zero-lt-suc, mul_comm, div-lt_iff_lt-mul, add_comm, one-mul, add-one, arith, pow_pos, pow-add, shr-shr, shr_lt}
+use Rattle.std.proofs.Common.{◌≡◌, ℕ, zero, suc, ◌+◌, ◌-◌, ◌*◌, ◌/◌, ◌%◌, ◌^◌, ◌<◌, ◌≤◌, ◌≢◌, sym, ap, ◌∙◌, subst, ap₂, lt_of_lt_of_le, mod-lt, mod-eq_of_lt, zero-lt-suc, mul_comm, div-lt_iff_lt-mul, add_comm, one-mul, add-one, arith, pow_pos, pow-add, shr-shr, shr_lt}
 use mathlib.Core.Path.{subst⁻¹}
 use native.Mathlib.Nat.{div-div-eq-div-mul, mul-div_cancel_left, mul-div-mul_right, div-eq_of_lt, mod-one, pow-le-pow_right, pow-succ'}
 use lib.Bits.{bit_xor, xor_comm, xor_self, xor_shifted}
@@ -7,7 +7,7 @@ use lib.Count.{count_leading_zeros}
 use lib.Pow.{pow-lt, split, mod-pow-add}
 use Rattle.polynomials.specs.Polynomial.{action, clmul, xtime, remainder, product}
 use Rattle.polynomials.proofs.Action.{action_times_x, action_one, clmul_comm, clmul_assoc}
-use Rattle.polynomials.proofs.Euclid.{Bezout, Ordered, Turned, leads, exchanged, stayed, turned, first, clmul_pow}
+use Rattle.polynomials.proofs.Euclid.{Bezout, Ordered, leads, exchanged, stayed, turned, first, clmul_pow}
 use Rattle.polynomials.proofs.Quotient.{xtime_xor, xtime_shifts, remainder_xor, remainder_small, remainder_pow, remainder_left, product_action, product_comm, product_xor}
 use Rattle.polynomials.proofs.Xor.{bit_over}
 

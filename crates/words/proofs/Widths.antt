@@ -1,5 +1,5 @@
 -- What the machine's operations do to a word of n bits.
-use Rattle.std.proofs.Common.{◌≡◌, ℕ, zero, suc, ◌+◌, ◌-◌, ◌*◌, ◌/◌, ◌%◌, ◌^◌, ◌<◌, ◌≤◌, sym, refl, ap, ◌∙◌, lt_of_lt_of_le, mod-lt, mod-eq_of_lt, zero-lt-suc, one-mul, zero-add, zero-mul, mul_left_comm, arith, pow_pos, pow-add}
+use Rattle.std.proofs.Common.{◌≡◌, ℕ, zero, suc, ◌+◌, ◌-◌, ◌*◌, ◌/◌, ◌%◌, ◌^◌, ◌<◌, ◌≤◌, sym, ap, ◌∙◌, lt_of_lt_of_le, mod-lt, mod-eq_of_lt, zero-lt-suc, one-mul, zero-add, zero-mul, mul_left_comm, arith, pow_pos, pow-add}
 use native.Mathlib.Nat.{sub-zero, zero-mod, mod_self, mod-mod, mul-mod_right, div-eq_of_lt, pow-le-pow_right}
 use lib.Bits.{bit_and, and_comm, and_mask}
 

@@ -1,7 +1,7 @@
 -- The rounds, as the code goes through them.
-use Rattle.std.proofs.Common.{◌≡◌, ℕ, zero, suc, ◌+◌, ◌-◌, ◌*◌, ◌/◌, ◌%◌, ◌^◌, ◌<◌, ◌≤◌, List, get_or, sym, refl, ap, ◌∙◌, ap₂, add-one, arith, lit<}
+use Rattle.std.proofs.Common.{◌≡◌, ℕ, zero, suc, ◌+◌, ◌-◌, ◌/◌, ◌%◌, ◌^◌, ◌<◌, List, get_or, sym, ap, ◌∙◌, add-one, arith, lit<}
 use Rattle.xtea.specs.Xtea.{plus, minus, change, sum_after, Words, grow₀, grow₁, shrink₀, shrink₁, rounds, rounds_back}
-use Rattle.xtea.proofs.Undoing.{pair, plus_lt, minus_lt, plus_undone}
+use Rattle.xtea.proofs.Undoing.{pair, plus_lt, plus_undone}
 
 pub sum_next : (i s : ℕ) → s ≡ sum_after i → plus s 0x9E3779B9 ≡ sum_after (i + 1)
 unfolding sum_after

@@ -1,6 +1,6 @@
 -- Each map undoes the other.
-use Rattle.std.proofs.Common.{◌≡◌, ℕ, zero, suc, ◌+◌, ◌-◌, ◌*◌, ◌/◌, ◌%◌, ◌^◌, ◌<◌, ◌≤◌, List, [], ◌∷◌, get_or, sym, refl, ap, ◌∙◌, ap₂, mod-lt, arith, lit<}
-use lib.Bits.{bit_xor, xor_lt}
+use Rattle.std.proofs.Common.{◌≡◌, ℕ, zero, suc, ◌+◌, ◌-◌, ◌*◌, ◌/◌, ◌%◌, ◌^◌, ◌<◌, List, get_or, refl, ap, ◌∙◌, ap₂, mod-lt, arith, lit<}
+use lib.Bits.{xor_lt}
 use Rattle.std.proofs.lemmas.Nat.{div_below, div-add-mod'}
 use Rattle.xtea.specs.Xtea.{plus, minus, F, change, sum_after, Words, grow₀, grow₁, shrink₀, shrink₁, rounds, rounds_back, key_words, words_of, block_of, encipher, decipher}
 

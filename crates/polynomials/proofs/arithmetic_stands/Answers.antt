@@ -1,6 +1,6 @@
 use Rattle.std.proofs.Common.{◌≡◌, ℕ, ◌+◌, ◌^◌, sym, ap, ◌∙◌}
-use lib.Bits.{bit_xor, xor_comm}
-use Rattle.polynomials.specs.Polynomial.{clmul, product, remainder}
+use lib.Bits.{bit_xor}
+use Rattle.polynomials.specs.Polynomial.{clmul, product}
 use Rattle.polynomials.proofs.Coefficients.{clmul_coefficient}
 use Rattle.polynomials.proofs.Inverses.{inverse_found, inverse_none}
 use Rattle.polynomials.proofs.Quotient.{divides, remainder_only, product_lt, product_comm, product_assoc, product_xor, product_one}

@@ -1,4 +1,4 @@
-use Rattle.std.proofs.Common.{◌≡◌, Bool, true, sym, ap, ◌∙◌, rules}
+use Rattle.std.proofs.Common.{◌≡◌, true, sym, ap, ◌∙◌}
 use Rattle.rings.specs.Ring.{RingKind}
 use Rattle.modes.specs.Faults.{answered}
 use Rattle.heh_theory.specs.Heh.{size_fits}

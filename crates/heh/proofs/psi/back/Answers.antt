@@ -1,4 +1,4 @@
-use Rattle.std.proofs.Common.{◌≡◌, ℕ, ◌-◌, ◌*◌, ◌/◌, ◌<◌, List, [], ◌∷◌, ◌++◌, length, get_or, drop, sym, ap, ◌∙◌, ap₂, rules}
+use Rattle.std.proofs.Common.{◌≡◌, ℕ, ◌-◌, ◌*◌, ◌/◌, ◌<◌, [], ◌∷◌, ◌++◌, length, get_or, drop, ap, ◌∙◌, rules}
 use lib.Bits.{bit_xor}
 use Rattle.std.proofs.ByRecursion.{All-from_get_or, All-take}
 use Rattle.rings.specs.Blocks.{blocks}
@@ -7,8 +7,8 @@ use Rattle.rings.specs.Sums.{hash_sum}
 use Rattle.passes.specs.Sector.{bytes}
 use Rattle.passes.proofs.Parts.{blocks_below}
 use Rattle.passes.proofs.Stages.{length_placewise}
-use Rattle.heh_theory.specs.Heh.{front, last, middle_back, offset, offset_at}
-use Rattle.heh.proofs.Buffers.{ahead, last_is, head_is, head_read, written, length_ahead}
+use Rattle.heh_theory.specs.Heh.{front, middle_back, offset, offset_at}
+use Rattle.heh.proofs.Buffers.{last_is, head_is, head_read, written, length_ahead}
 use Rattle.heh_theory.proofs.Inverse.{offset_low}
 use Rattle.heh_theory.proofs.Undoing.{size_parts}
 use Rattle.heh.proofs.psi.back.Goals as goal

@@ -1,12 +1,12 @@
-use Rattle.std.proofs.Common.{◌≡◌, ℕ, ◌-◌, ◌*◌, ◌/◌, ◌<◌, List, [], ◌∷◌, ◌++◌, length, get_or, drop, sym, ap, ◌∙◌, ap₂, rules}
+use Rattle.std.proofs.Common.{◌≡◌, ℕ, ◌-◌, ◌*◌, ◌/◌, ◌<◌, [], ◌∷◌, ◌++◌, length, get_or, drop, ap, ◌∙◌, ap₂, rules}
 use lib.Bits.{bit_xor}
 use Rattle.std.proofs.ByRecursion.{All-from_get_or}
 use Rattle.rings.specs.Blocks.{blocks}
 use Rattle.rings.specs.Sums.{hash_sum}
 use Rattle.passes.specs.Sector.{bytes}
 use Rattle.passes.proofs.Stages.{length_placewise}
-use Rattle.heh_theory.specs.Heh.{front, last, middle, offset, offset_at}
-use Rattle.heh.proofs.Buffers.{ahead, front_is, last_is, head_is, written, length_ahead}
+use Rattle.heh_theory.specs.Heh.{front, middle, offset, offset_at}
+use Rattle.heh.proofs.Buffers.{front_is, last_is, head_is, written, length_ahead}
 use Rattle.heh_theory.proofs.Undoing.{size_parts}
 use Rattle.heh.proofs.psi.forward.Goals as goal
 

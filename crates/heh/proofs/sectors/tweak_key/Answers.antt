@@ -1,4 +1,4 @@
-use Rattle.std.proofs.Common.{◌≡◌, ℕ, ◌*◌, sym, ap, ◌∙◌, ap₂, mod-eq_of_lt, rules}
+use Rattle.std.proofs.Common.{◌≡◌, ◌*◌, sym, ap, ◌∙◌, ap₂, mod-eq_of_lt}
 use lib.Bits.{bit_xor}
 use Rattle.rings.specs.Ring.{times}
 use Rattle.rings.proofs.Total.{alpha_below, times_blocks}

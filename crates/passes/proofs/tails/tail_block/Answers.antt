@@ -1,4 +1,4 @@
-use Rattle.std.proofs.Common.{◌≡◌, ℕ, ◌<◌, ◌∙◌}
+use Rattle.std.proofs.Common.{ℕ, ◌<◌, ◌∙◌}
 use Rattle.std.proofs.ByRecursion.{All-from_get_or}
 use Rattle.passes.proofs.Ends.{tail_none, tail_some}
 use Rattle.passes.proofs.tails.tail_block.Goals as goal

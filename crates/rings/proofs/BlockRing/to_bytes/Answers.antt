@@ -1,4 +1,4 @@
-use Rattle.std.proofs.Common.{◌≡◌, ◌≤◌, length, sym, ◌∙◌, arith, take_all}
+use Rattle.std.proofs.Common.{◌≤◌, length, sym, ◌∙◌, arith, take_all}
 use Rattle.rings.specs.Blocks.{bytes_of}
 use Rattle.rings.proofs.Bytes.{bytes_more, length_bytes_of}
 use Rattle.rings.proofs.BlockRing.to_bytes.Goals as goal

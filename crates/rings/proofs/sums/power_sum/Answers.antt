@@ -1,4 +1,4 @@
-use Rattle.std.proofs.Common.{◌≡◌, ℕ, suc, ◌+◌, ◌-◌, ◌*◌, ◌/◌, ◌%◌, ◌^◌, ◌<◌, ◌≤◌, ◌≢◌, sym, ap, ◌∙◌, subst, div-lt_iff_lt-mul, div-one, arith, pow_pos, shr-shr}
+use Rattle.std.proofs.Common.{◌≡◌, ℕ, ◌+◌, ◌-◌, ◌/◌, ◌^◌, ◌<◌, ◌≤◌, ◌≢◌, sym, ap, ◌∙◌, subst, div-lt_iff_lt-mul, div-one, arith, pow_pos, shr-shr}
 use native.Mathlib.Nat.{pow-succ'}
 use lib.Bits.{bit_and, and_mask}
 use lib.Count.{count_leading_zeros, leading_top}
@@ -6,7 +6,6 @@ use Rattle.std.proofs.lemmas.Nat.{le-div}
 use Rattle.rings.specs.Ring.{RingKind}
 use Rattle.rings.specs.Sums.{sigma}
 use Rattle.rings.proofs.Powers.{Summed, summed_one, powers_one, summed_doubled, summed_more, sigma_none, sigma_one, sigma_even, sigma_odd}
-use Rattle.rings.proofs.sums.power_sum.Given as given
 use Rattle.rings.proofs.sums.power_sum.Goals as goal
 
 -- the highest bit alone

@@ -1,4 +1,4 @@
-use Rattle.std.proofs.Common.{◌≡◌, ℕ, Some, None, sym, ap, ◌∙◌, rules}
+use Rattle.std.proofs.Common.{◌≡◌, Some, None, sym, ap, ◌∙◌}
 use Rattle.passes.specs.Sector.{rowwise}
 use Rattle.tet.specs.Keys.{key_of}
 use Rattle.tet_theory.specs.Tet.{deciphered, hash_key, beta, decipher}

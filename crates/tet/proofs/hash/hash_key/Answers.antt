@@ -1,4 +1,4 @@
-use Rattle.std.proofs.Common.{◌≡◌, ℕ, ◌≤◌, arith}
+use Rattle.std.proofs.Common.{◌≤◌, arith}
 use Rattle.tet.proofs.Hashes.{hash_made}
 use Rattle.tet.proofs.hash.hash_key.Goals as goal
 

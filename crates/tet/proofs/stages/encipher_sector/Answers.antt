@@ -1,4 +1,4 @@
-use Rattle.std.proofs.Common.{◌≡◌, ℕ, ◌/◌, ◌%◌, ◌<◌, ◌≤◌, length, get_or, ◌∙◌, subst, arith, rules}
+use Rattle.std.proofs.Common.{ℕ, ◌/◌, ◌%◌, ◌<◌, length, get_or, ◌∙◌, subst, rules}
 use Rattle.std.proofs.lemmas.Nat.{mod_below}
 use Rattle.std.proofs.ByRecursion.{All-from_get_or}
 use Rattle.rings.specs.Ring.{size}

@@ -1,4 +1,4 @@
-use Rattle.std.proofs.Common.{◌≡◌, ℕ, ◌<◌, sym, ap, ◌∙◌, ap₂}
+use Rattle.std.proofs.Common.{ℕ, sym, ap, ◌∙◌, ap₂}
 use lib.Bits.{bit_xor}
 use Rattle.rings.specs.Ring.{times}
 use Rattle.rings.proofs.Total.{times_blocks}

@@ -1,9 +1,9 @@
-use Rattle.std.proofs.Common.{◌≡◌, ℕ, ◌-◌, ◌*◌, ◌/◌, ◌%◌, ◌^◌, ◌<◌, ◌≤◌, length, take, drop, sym, ap, ◌∙◌, ap₂, mod-eq_of_lt, arith, rules}
+use Rattle.std.proofs.Common.{◌≡◌, ℕ, ◌-◌, ◌*◌, ◌/◌, ◌<◌, length, take, drop, ap, ◌∙◌, ap₂, mod-eq_of_lt, arith}
 use Rattle.std.proofs.lemmas.List.{take_rest}
 use Rattle.rings.specs.Blocks.{first_blocks}
 use Rattle.rings.specs.Ring.{size}
 use Rattle.tet_theory.specs.Tet.{ahead, chained, last_step}
-use Rattle.tet.proofs.Chains.{ahead_fits, end_short}
+use Rattle.tet.proofs.Chains.{ahead_fits}
 use Rattle.tet.proofs.tweaks.tweak_block.Goals as goal
 
 pub chain-v-requires : goal.chain-v-requires

@@ -1,4 +1,4 @@
-use Rattle.std.proofs.Common.{◌≡◌, length, is_ok, sym, refl, ap, ◌∙◌, rules}
+use Rattle.std.proofs.Common.{is_ok, sym, ap, ◌∙◌, rules}
 use Rattle.devices.specs.Device.{live}
 use Rattle.volumes.proofs.Rekeys.{passed, unready, read_is}
 use Rattle.volumes.proofs.rekey.rekey.Goals as goal

@@ -1,4 +1,4 @@
-use Rattle.std.proofs.Common.{◌≡◌, ℕ, ◌*◌, ◌%◌, ◌^◌, ap, ◌∙◌, ap₂}
+use Rattle.std.proofs.Common.{◌∙◌, ap₂}
 use lib.Bits.{bit_xor}
 use Rattle.words.proofs.Turns.{doubled}
 use Rattle.words.proofs.arithmetic.xtime.Goals as goal

@@ -1,5 +1,5 @@
-use Rattle.std.proofs.Common.{◌≡◌, ℕ, ◌<◌, List, sym, refl, ap, ◌∙◌, ap₂, arith}
-use Rattle.xtea.specs.Xtea.{Words, plus, minus, sum_after, rounds_back, words_of, block_of, key_words, decipher}
+use Rattle.std.proofs.Common.{◌≡◌, ℕ, List, refl, ap, ◌∙◌, ap₂, arith}
+use Rattle.xtea.specs.Xtea.{plus, minus, sum_after, rounds_back, words_of, block_of, decipher}
 use Rattle.xtea.proofs.Rounds.{sum_back, inv_turn}
 use Rattle.xtea.proofs.Undoing.{pair}
 use Rattle.xtea.proofs.Xtea.decipher.Goals as goal

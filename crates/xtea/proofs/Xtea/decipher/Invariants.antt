@@ -1,5 +1,5 @@
 use Rattle.std.proofs.Common.{◌≡◌}
-use Rattle.xtea.specs.Xtea.{sum_after, rounds_back, words_of}
+use Rattle.xtea.specs.Xtea.{sum_after, rounds_back}
 use Rattle.xtea.proofs.Undoing.{pair}
 use Rattle.xtea.proofs.Xtea.decipher.Given as goal
 

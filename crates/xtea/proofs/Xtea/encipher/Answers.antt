@@ -1,5 +1,5 @@
-use Rattle.std.proofs.Common.{◌≡◌, ℕ, List, sym, refl, ap, ◌∙◌, ap₂, arith}
-use Rattle.xtea.specs.Xtea.{Words, plus, sum_after, rounds, words_of, block_of, key_words, encipher}
+use Rattle.std.proofs.Common.{◌≡◌, ℕ, List, refl, ap, ◌∙◌, ap₂, arith}
+use Rattle.xtea.specs.Xtea.{Words, plus, sum_after, rounds, words_of, block_of, encipher}
 use Rattle.xtea.proofs.Rounds.{sum_next, turn}
 use Rattle.xtea.proofs.Undoing.{pair}
 use Rattle.xtea.proofs.Xtea.encipher.Goals as goal

@@ -1,5 +1,5 @@
 use Rattle.std.proofs.Common.{◌≡◌}
-use Rattle.xtea.specs.Xtea.{sum_after, rounds, words_of}
+use Rattle.xtea.specs.Xtea.{sum_after, rounds}
 use Rattle.xtea.proofs.Undoing.{pair}
 use Rattle.xtea.proofs.Xtea.encipher.Given as goal
 

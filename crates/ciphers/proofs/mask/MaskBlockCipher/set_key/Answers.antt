@@ -1,5 +1,4 @@
-use Rattle.std.proofs.Common.{◌≡◌, ℕ, ◌%◌, ◌<◌, true, length, sym, ap, ◌∙◌, mod-eq_of_lt}
-use Rattle.std.specs.Int.Digits.{number_from_digits}
+use Rattle.std.proofs.Common.{◌≡◌, ℕ, ◌<◌, true, length, ap, ◌∙◌, mod-eq_of_lt}
 use Rattle.std.proofs.ByRecursion.{All-from_get_or}
 use Rattle.rings.specs.Blocks.{bytes_of}
 use Rattle.rings.specs.Rows.{row}

@@ -1,4 +1,4 @@
-use Rattle.std.proofs.Common.{◌≡◌, ℕ, ◌%◌, ◌^◌, ap, ◌∙◌}
+use Rattle.std.proofs.Common.{ℕ, ◌%◌, ◌^◌, ap, ◌∙◌}
 use native.Mathlib.Nat.{mod-mod}
 use lib.Bits.{and_mask}
 use Rattle.rings.proofs.modular.U8BlockRing.from_number.Goals as goal

@@ -1,9 +1,9 @@
-use Rattle.std.proofs.Common.{◌≡◌, ◌^◌, ◌<◌, length, Ok, Err, sym, refl, ap, ◌∙◌, arith, rules}
+use Rattle.std.proofs.Common.{◌≡◌, ◌^◌, ◌<◌, length, Ok, Err, sym, ap, ◌∙◌, arith, rules}
 use Rattle.devices.specs.Faults.{Answer, passed_up, by_answer}
 use Rattle.devices.specs.Device.{written, answer}
 use Rattle.devices.proofs.Answers.{passed, write_refused}
 use Rattle.volumes.specs.Sounds.{serving_fits}
-use Rattle.volumes.specs.Volume.{view, volume_of, with_device, serving, mode_check, enciphered_by, after_write_to}
+use Rattle.volumes.specs.Volume.{view, volume_of, with_device, serving, mode_check, enciphered_by}
 use Rattle.volumes.proofs.Shown.{answer_is, below, below_answers, fits, refused_closed, refused_unready, told_below, passed_on, write_meaning}
 use Rattle.volumes.proofs.sectors.VolumeSectorDevice.write.Goals as goal
 
