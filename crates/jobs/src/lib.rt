@@ -44,8 +44,8 @@ fn turn<M: TweakMode>(
     tweak: &[u8],
     sector: &mut [u8],
 ) -> Result<(), ModeFault>
-    ensures answer { result ≡ answered (obstacle_of kind (state mode.now) tweak.now sector.old) }
-    ensures sector { sector.new ≡ ciphered (λ key size. map_of kind direction key size tweak.now) (state mode.now) (obstacle_of kind (state mode.now) tweak.now sector.old) sector.old }
+    ensures answer { result ≡ answered (obstacle_of M.kind (M.state mode.now) tweak.now sector.old) }
+    ensures sector { sector.new ≡ ciphered (λ key size. map_of M.kind direction key size tweak.now) (M.state mode.now) (obstacle_of M.kind (M.state mode.now) tweak.now sector.old) sector.old }
 {
     match direction {
         Direction::Encipher => mode.encipher_with_tweak(tweak, sector),
@@ -56,8 +56,8 @@ fn turn<M: TweakMode>(
 /// Ciphers the sector of a job with a mode, in the front of a buffer, and tells its length.
 fn cipher<M: TweakMode>(job: &Job<'_>, buffer: &mut [u8]) -> Result<usize, ModeFault>
     requires { 4096 ≤ length buffer.old }
-    ensures length { result ≡ length_of (given kind (task_of job.now)) }
-    ensures sector { Front (given kind (task_of job.now)) buffer.new }
+    ensures length { result ≡ length_of (given M.kind (task_of job.now)) }
+    ensures sector { Front (given M.kind (task_of job.now)) buffer.new }
 {
     let size = job.sector.len();
     let mut mode = M::blank();

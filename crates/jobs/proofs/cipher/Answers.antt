@@ -10,8 +10,8 @@ returns g c =
     let sector = c.args.job.now.sector.now in
     let done =
     in_front m.kind (task_of c.args.job.now) (m.state c.key.new.self)
-    c.copy-from-slice.new.self c.turn.new.sector (post_of 0 (length sector - 0) c.args.buffer.now)
-    c.in-ok-key.ensures.answer (m.state c.blank-mode.result) c.in-ok-key.ensures.pair_is_held
-    c.copy-from-slice.ensures.after c.in-ok-turn.ensures.answer c.in-ok-turn.ensures.sector c.turn.auto.sector
+    c.copy_from_slice.new.self c.turn.new.sector (post_of 0 (length sector - 0) c.args.buffer.now)
+    c.in_ok-key.ensures.answer (m.state c.blank-mode.result) c.in_ok-key.ensures.pair_is_held
+    c.copy_from_slice.ensures.after c.in_ok-turn.ensures.answer c.in_ok-turn.ensures.sector c.turn.auto.sector
     in
     record { length = done.0; sector = done.1 }

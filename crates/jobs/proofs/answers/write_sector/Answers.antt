@@ -12,6 +12,6 @@ returns c =
     record {
       count = omega arith;
       place =
-          ap (λ (bs : List _). put_mid 3 (3 + n - 3) (set (set (set place 0 2) 1 (n / 256)) 2 (n % 256)) bs) c.copy-from-slice.ensures.after
+          ap (λ (bs : List _). put_mid 3 (3 + n - 3) (set (set (set place 0 2) 1 (n / 256)) 2 (n % 256)) bs) c.copy_from_slice.ensures.after
           ∙ written_after 2 (n / 256) (n % 256) sector place room;
     }
