@@ -21,14 +21,10 @@ use xtea::Xtea;
 const SIZES: [usize; 2] = [512, 4096];
 
 fn all(rt: &HostRuntime, plan: Plan, size: usize) -> io::Result<()> {
-    let subject: Subject<Tet<Aes128>> = Subject::new("tet-aes-128", Tet::new(), Tet::new(), 32);
-    subject.run(rt, plan, size)?;
-    let subject: Subject<Tet<Xtea>> = Subject::new("tet-xtea", Tet::new(), Tet::new(), 32);
-    subject.run(rt, plan, size)?;
-    let subject: Subject<Heh<Aes128>> = Subject::new("heh-aes-128", Heh::new(), Heh::new(), 16);
-    subject.run(rt, plan, size)?;
-    let subject: Subject<Heh<Xtea>> = Subject::new("heh-xtea", Heh::new(), Heh::new(), 16);
-    subject.run(rt, plan, size)
+    Subject::<Tet<Aes128>>::new("tet-aes-128", Tet::new(), Tet::new(), 32).run(rt, plan, size)?;
+    Subject::<Tet<Xtea>>::new("tet-xtea", Tet::new(), Tet::new(), 32).run(rt, plan, size)?;
+    Subject::<Heh<Aes128>>::new("heh-aes-128", Heh::new(), Heh::new(), 16).run(rt, plan, size)?;
+    Subject::<Heh<Xtea>>::new("heh-xtea", Heh::new(), Heh::new(), 16).run(rt, plan, size)
 }
 
 fn main(rt: HostRuntime) -> io::Result<()> {

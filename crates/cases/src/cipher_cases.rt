@@ -19,8 +19,7 @@ fn with_cipher<C: BlockCipher>(
     if key != "new" {
         let bytes = parse_bytes(heap, key)?;
         if let Err(fault) = cipher.set_key(bytes.as_slice()) {
-            let number = fault.number();
-            return Ok(format!(in heap; "refused {number}")?);
+            return Ok(format!(in heap; "refused {fault}")?);
         }
     }
     let mut block: C::Ring = parse_block(heap, text)?;

@@ -17,18 +17,12 @@ pub fn parse_bytes(heap: Global, text: &str) -> anyhow::Result<Vec<u8>> {
     if text == "-" {
         return Ok(bytes);
     }
-    let mut high = None;
-    for c in text.bytes() {
-        let low = digit(c)?;
-        match high {
-            None => high = Some(low),
-            Some(h) => {
-                bytes.push((h & 15) << 4 | low)?;
-                high = None;
-            }
-        }
+    let (pairs, half) = text.as_bytes().as_chunks::<2>();
+    for [high, low] in pairs {
+        bytes.push((digit(*high)? & 15) << 4 | digit(*low)?)?;
     }
-    if high.is_some() {
+    for c in half {
+        digit(*c)?;
         return Err(anyhow!("half a byte"));
     }
     Ok(bytes)

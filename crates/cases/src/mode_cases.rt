@@ -9,6 +9,7 @@ use heh::Heh;
 use modes::ModeFault;
 use std::alloc::Global;
 use tet::Tet;
+use tweak_modes::TweakMode;
 use xtea::Xtea;
 
 /// One case: the words of its line.
@@ -23,66 +24,36 @@ pub struct Case<'a> {
     pub sector: &'a str,
 }
 
-fn through_tet<C: BlockCipher>(
-    back: bool,
+fn through<M: TweakMode>(
+    direction: &str,
     size: usize,
     key: &[u8],
     tweak: &[u8],
     sector: &mut [u8],
 ) -> Result<(), ModeFault> {
-    let mut mode: Tet<C> = Tet::new();
+    let mut mode = M::blank();
     mode.key(key, size)?;
-    if back {
-        mode.decipher_with_tweak(tweak, sector)
-    } else {
-        mode.encipher_with_tweak(tweak, sector)
+    match direction {
+        "decipher" => mode.decipher_with_tweak(tweak, sector),
+        _ => mode.encipher_with_tweak(tweak, sector),
     }
 }
 
-fn through_heh<C: BlockCipher>(
-    back: bool,
-    size: usize,
-    key: &[u8],
-    tweak: &[u8],
-    sector: &mut [u8],
-) -> Result<(), ModeFault> {
-    let mut mode: Heh<C> = Heh::new();
-    mode.key(key, size)?;
-    if back {
-        mode.decipher_with_tweak(tweak, sector)
-    } else {
-        mode.encipher_with_tweak(tweak, sector)
-    }
-}
-
-fn with_cipher<C: BlockCipher>(heap: Global, case: &Case) -> anyhow::Result<String> {
+fn with_mode<M: TweakMode>(heap: Global, case: &Case) -> anyhow::Result<String> {
     let size = case.size.parse::<usize>()?;
     let key = parse_bytes(heap, case.key)?;
     let tweak = parse_bytes(heap, case.tweak)?;
     let mut sector = parse_bytes(heap, case.sector)?;
-    let back = case.direction == "decipher";
-    let answer = match case.mode {
-        "tet" => through_tet::<C>(
-            back,
-            size,
-            key.as_slice(),
-            tweak.as_slice(),
-            sector.as_mut_slice(),
-        ),
-        _ => through_heh::<C>(
-            back,
-            size,
-            key.as_slice(),
-            tweak.as_slice(),
-            sector.as_mut_slice(),
-        ),
-    };
-    match answer {
-        Ok(()) => show_bytes(heap, sector.as_slice()),
-        Err(fault) => {
-            let number = fault.number();
-            Ok(format!(in heap; "refused {number}")?)
-        }
+    match through::<M>(case.direction, size, &key, &tweak, &mut sector) {
+        Ok(()) => show_bytes(heap, &sector),
+        Err(fault) => Ok(format!(in heap; "refused {fault}")?),
+    }
+}
+
+fn with_cipher<C: BlockCipher>(heap: Global, case: &Case) -> anyhow::Result<String> {
+    match case.mode {
+        "tet" => with_mode::<Tet<C>>(heap, case),
+        _ => with_mode::<Heh<C>>(heap, case),
     }
 }
 

@@ -11,12 +11,7 @@ pub fn answer(
 ) -> io::Result<()> {
     match answer {
         Ok(()) => println!(rt; "  {call} {sector}: done"),
-        Err(fault) => {
-            let number = fault.reason.number();
-            let at = fault.sector;
-            let depth = fault.depth;
-            println!(rt; "  {call} {sector}: refused {number}, sector {at}, depth {depth}")
-        }
+        Err(fault) => println!(rt; "  {call} {sector}: refused {fault}"),
     }
 }
 
@@ -54,10 +49,7 @@ pub fn enter<D: SectorDevice>(
 ) -> io::Result<()> {
     match faults.enter(sector) {
         Ok(()) => println!(rt; "  enter {sector}: done"),
-        Err(refusal) => {
-            let number = refusal.number();
-            println!(rt; "  enter {sector}: refused {number}")
-        }
+        Err(refusal) => println!(rt; "  enter {sector}: refused {refusal}"),
     }
 }
 
@@ -68,10 +60,7 @@ pub fn list<D: SectorDevice>(
 ) -> io::Result<()> {
     match faults.list(places) {
         Ok(count) => println!(rt; "  list: {count}")?,
-        Err(refusal) => {
-            let number = refusal.number();
-            println!(rt; "  list: refused {number}")?;
-        }
+        Err(refusal) => println!(rt; "  list: refused {refusal}")?,
     }
     println!(rt; "    {places:?}")
 }

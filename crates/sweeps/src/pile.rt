@@ -18,10 +18,7 @@ use volumes::volume::Volume;
 fn called(rt: &impl Print, what: &str, answer: Result<(), VolumeFault>) -> io::Result<()> {
     match answer {
         Ok(()) => println!(rt; "  {what}: done"),
-        Err(fault) => {
-            let number = fault.refusal.number();
-            println!(rt; "  {what}: refused {number}")
-        }
+        Err(fault) => println!(rt; "  {what}: refused {fault}"),
     }
 }
 
@@ -30,12 +27,7 @@ fn show<D: SectorDevice>(rt: &impl Print, device: &mut D) -> io::Result<()> {
         let mut buffer = [0; 2];
         match device.read(sector, &mut buffer) {
             Ok(()) => println!(rt; "  sector {sector} reads {buffer:?}")?,
-            Err(fault) => {
-                let number = fault.reason.number();
-                let at = fault.sector;
-                let depth = fault.depth;
-                println!(rt; "  sector {sector}: refused {number}, sector {at}, depth {depth}")?
-            }
+            Err(fault) => println!(rt; "  sector {sector}: refused {fault}")?,
         }
     }
     Ok(())

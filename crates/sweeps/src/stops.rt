@@ -43,14 +43,10 @@ fn writes<D: SectorDevice>(device: &mut D, sector: u32, version: u32) -> bool {
 }
 
 /// Writes every sector's first version.
-fn write_all<D: SectorDevice>(device: &mut D) -> u32 {
-    let mut written = 0u32;
-    for sector in 0..COUNT {
-        if writes(device, sector, 1) {
-            written = written.saturating_add(1);
-        }
-    }
-    written
+fn write_all<D: SectorDevice>(device: &mut D) -> usize {
+    (0..COUNT)
+        .filter(|sector| writes(device, *sector, 1))
+        .count()
 }
 
 /// Reads the sector's first version, writes and reads its second; a sector that is not there is left.
@@ -67,53 +63,52 @@ fn use_sector<D: SectorDevice>(device: &mut D, sector: Option<u32>) -> &'static 
     }
 }
 
-/// How many sectors read as their last version, where those next to the mark have their second.
-fn count_right<D: SectorDevice>(device: &mut D, mark: u32) -> u32 {
-    let mut right = 0u32;
-    for sector in 0..COUNT {
-        let near = sector.abs_diff(mark) <= 1;
-        if reads(device, sector, if near { 2 } else { 1 }) {
-            right = right.saturating_add(1);
-        }
-    }
-    right
+/// The version that a sector has at the end: those next to the mark have their second.
+fn last_version(sector: u32, mark: u32) -> u32 {
+    if sector.abs_diff(mark) <= 1 { 2 } else { 1 }
 }
 
-fn steps<D: SectorDevice, M: WideMode>(volume: &mut Volume<D, M>, count: u32) -> u32 {
-    let mut accepted = 0u32;
-    for _ in 0..count {
-        if volume.step().is_ok() {
-            accepted = accepted.saturating_add(1);
-        }
-    }
-    accepted
+/// How many sectors read as their last version.
+fn count_right<D: SectorDevice>(device: &mut D, mark: u32) -> usize {
+    (0..COUNT)
+        .filter(|sector| reads(device, *sector, last_version(*sector, mark)))
+        .count()
+}
+
+/// How many of so many steps are accepted.
+fn steps<D: SectorDevice, M: WideMode>(volume: &mut Volume<D, M>, count: u32) -> usize {
+    (0..count).filter(|_| volume.step().is_ok()).count()
 }
 
 fn told(phase: Phase) -> (u8, u32) {
     (phase.number(), phase.mark())
 }
 
+/// Does a mode decipher what a device holds to a version of the sector?
+fn deciphers<D: SectorDevice, M: WideMode>(
+    device: &mut D,
+    mode: &M,
+    sector: u32,
+    version: u32,
+) -> bool {
+    let mut wanted = [0; SIZE];
+    fill(&mut wanted, sector, version);
+    let mut buffer = [0; SIZE];
+    device.read(sector, &mut buffer).is_ok()
+        && mode.decipher(sector, &mut buffer).is_ok()
+        && buffer == wanted
+}
+
 /// The sectors of a swept image that the new key deciphers by itself, each with its own number.
-fn stored_right(image: &mut [u8], mark: u32) -> u32 {
+fn stored_right(image: &mut [u8], mark: u32) -> usize {
     let mut mode: Tet<Aes128> = Tet::new();
     if mode.key(&NEW_KEY, SIZE).is_err() {
         return 0;
     }
     let mut device = Image::new(image, 520);
-    let mut right = 0u32;
-    for sector in 0..COUNT {
-        let mut buffer = [0; SIZE];
-        let mut wanted = [0; SIZE];
-        let near = sector.abs_diff(mark) <= 1;
-        fill(&mut wanted, sector, if near { 2 } else { 1 });
-        if device.read(sector, &mut buffer).is_ok()
-            && mode.decipher(sector, &mut buffer).is_ok()
-            && buffer == wanted
-        {
-            right = right.saturating_add(1);
-        }
-    }
-    right
+    (0..COUNT)
+        .filter(|sector| deciphers(&mut device, &mode, *sector, last_version(*sector, mark)))
+        .count()
 }
 
 fn stop_at(rt: &impl Print, mark: u32) -> io::Result<()> {

@@ -15,8 +15,8 @@ const TEXT: [u8; 16] = *b"a block of bytes";
 
 fn show_block<R: BlockRing>(rt: &impl Print, what: &str, block: R) -> io::Result<()> {
     print!(rt; "  {what} ")?;
-    for i in 0..R::width() {
-        let byte = block.byte(R::width().saturating_sub(1).saturating_sub(i));
+    for place in (0..R::width()).rev() {
+        let byte = block.byte(place);
         print!(rt; "{byte:02x}")?;
     }
     println!(rt; "")
@@ -28,8 +28,7 @@ fn show_cipher<C: BlockCipher>(rt: &impl Print, name: &str) -> io::Result<()> {
     let key = C::key_length();
     if key <= 16 {
         if let Err(fault) = cipher.set_key(&KEY[0..key]) {
-            let number = fault.number();
-            return println!(rt; "  the key is refused with {number}");
+            return println!(rt; "  the key is refused with {fault}");
         }
     }
     let mut block = C::Ring::from_bytes(&TEXT);
@@ -40,10 +39,7 @@ fn show_cipher<C: BlockCipher>(rt: &impl Print, name: &str) -> io::Result<()> {
     show_block(rt, "deciphered", block)?;
     match cipher.set_key(&[]) {
         Ok(()) => println!(rt; "  a key of no bytes is taken"),
-        Err(fault) => {
-            let number = fault.number();
-            println!(rt; "  a key of no bytes is refused with {number}")
-        }
+        Err(fault) => println!(rt; "  a key of no bytes is refused with {fault}"),
     }
 }
 

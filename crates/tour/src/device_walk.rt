@@ -16,14 +16,7 @@ fn show_answer(
 ) -> io::Result<()> {
     match answer {
         Ok(()) => println!(rt; "  {call} sector {sector}: done"),
-        Err(fault) => {
-            let number = fault.reason.number();
-            let place = fault.sector;
-            let depth = fault.depth;
-            println!(rt;
-                "  {call} sector {sector}: refused with {number}, sector {place}, depth {depth}"
-            )
-        }
+        Err(fault) => println!(rt; "  {call} sector {sector}: refused with {fault}"),
     }
 }
 
@@ -52,10 +45,7 @@ pub fn walk(rt: &impl Print) -> io::Result<()> {
         let mut faults = FaultList::new(boards);
         match faults.enter(2) {
             Ok(()) => println!(rt; "  sector 2 of the boards is entered as dead")?,
-            Err(refusal) => {
-                let number = refusal.number();
-                println!(rt; "  sector 2 is not entered: {number}")?
-            }
+            Err(refusal) => println!(rt; "  sector 2 is not entered: {refusal}")?,
         }
         let mut window = Window::new(faults, 1, 3);
         use_device(rt, &mut window)?;

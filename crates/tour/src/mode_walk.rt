@@ -17,10 +17,7 @@ const NUMBER: u32 = 7;
 fn show_answer(rt: &impl Print, call: &str, answer: Result<(), ModeFault>) -> io::Result<()> {
     match answer {
         Ok(()) => println!(rt; "  {call}: done"),
-        Err(fault) => {
-            let number = fault.number();
-            println!(rt; "  {call}: refused with {number}")
-        }
+        Err(fault) => println!(rt; "  {call}: refused with {fault}"),
     }
 }
 
@@ -62,20 +59,23 @@ fn show_mode<M: WideMode>(
 }
 
 pub fn walk(rt: &impl Print) -> io::Result<()> {
-    let tet: Tet<Aes128> = Tet::new();
-    show_mode(rt, "TET with AES-128", tet, &KEY, &mut [0; 512])?;
-    let tet: Tet<Aes128> = Tet::new();
-    show_mode(rt, "TET with AES-128", tet, &KEY, &mut [0; 520])?;
-    let heh: Heh<Aes128> = Heh::new();
-    show_mode(rt, "HEH with AES-128", heh, &KEY[0..16], &mut [0; 512])?;
-    let heh: Heh<Xtea> = Heh::new();
-    show_mode(rt, "HEH with XTEA", heh, &KEY[0..16], &mut [0; 520])?;
-    let heh: Heh<Aes128> = Heh::new();
+    let tet = Tet::<Aes128>::new;
+    let heh = Heh::<Aes128>::new;
+    show_mode(rt, "TET with AES-128", tet(), &KEY, &mut [0; 512])?;
+    show_mode(rt, "TET with AES-128", tet(), &KEY, &mut [0; 520])?;
+    show_mode(rt, "HEH with AES-128", heh(), &KEY[..16], &mut [0; 512])?;
+    show_mode(
+        rt,
+        "HEH with XTEA",
+        Heh::<Xtea>::new(),
+        &KEY[..16],
+        &mut [0; 520],
+    )?;
     show_mode(
         rt,
         "HEH with AES-128, which takes whole blocks alone",
-        heh,
-        &KEY[0..16],
+        heh(),
+        &KEY[..16],
         &mut [0; 520],
     )
 }

@@ -15,8 +15,8 @@ const CUBE_ROOT: u128 = 0x295ac0b1f4731af9676aac9fa4b20b09;
 
 fn counting_bytes() -> [u8; SECTOR_LENGTH] {
     let mut sector = [0; SECTOR_LENGTH];
-    for i in 0..SECTOR_LENGTH {
-        sector[i] = (i % 256) as u8;
+    for (i, byte) in sector.iter_mut().enumerate() {
+        *byte = (i % 256) as u8;
     }
     sector
 }

@@ -32,61 +32,62 @@ const SECOND_KEY: [u8; 32] = *b"the key after that and its other";
 
 /// The module is closed: nothing but its open key helps.
 fn monday(heap: Global) -> Result<Vec<Entry>, AllocError> {
-    let mut script = Vec::new(heap);
-    script.push(report())?;
-    script.push(read(heap, 2, SIZE)?)?;
-    script.push(open(heap, b"too short a key")?)?;
-    script.push(open(heap, &FIRST_KEY)?)?;
-    script.push(report())?;
-    Ok(script)
+    Ok(vec![in heap;
+        report(),
+        read(heap, 2, SIZE)?,
+        open(heap, b"too short a key")?,
+        open(heap, &FIRST_KEY)?,
+        report(),
+    ]?)
 }
 
 /// Each sector is read and written by itself.
 fn tuesday(heap: Global) -> Result<Vec<Entry>, AllocError> {
-    let mut script = Vec::new(heap);
-    script.push(write(heap, 2, SIZE, b"Tuesday's report")?)?;
-    script.push(read(heap, 2, SIZE)?)?;
-    script.push(write(heap, 4, SIZE, b"not here: dead")?)?;
-    script.push(write(heap, 6, SIZE, b"not here: past the end")?)?;
-    script.push(read(heap, 2, 100)?)?;
-    Ok(script)
+    Ok(vec![in heap;
+        write(heap, 2, SIZE, b"Tuesday's report")?,
+        read(heap, 2, SIZE)?,
+        write(heap, 4, SIZE, b"not here: dead")?,
+        write(heap, 6, SIZE, b"not here: past the end")?,
+        read(heap, 2, 100)?,
+    ]?)
 }
 
 /// The key is changed for the first two sectors, and then the machine has other work.
 fn wednesday(heap: Global) -> Result<Vec<Entry>, AllocError> {
-    let mut script = Vec::new(heap);
-    script.push(step())?;
-    script.push(begin(heap, &SECOND_KEY)?)?;
-    script.push(step())?;
-    script.push(step())?;
-    script.push(report())?;
-    script.push(begin(heap, &FIRST_KEY)?)?;
-    Ok(script)
+    Ok(vec![in heap;
+        step(),
+        begin(heap, &SECOND_KEY)?,
+        step(),
+        step(),
+        report(),
+        begin(heap, &FIRST_KEY)?,
+    ]?)
 }
 
 /// Reads and writes below the mark, at it and above it.
 fn thursday(heap: Global) -> Result<Vec<Entry>, AllocError> {
-    let mut script = Vec::new(heap);
-    script.push(write(heap, 1, SIZE, b"below the mark")?)?;
-    script.push(read(heap, 1, SIZE)?)?;
-    script.push(read(heap, 2, SIZE)?)?;
-    script.push(write(heap, 3, SIZE, b"above the mark")?)?;
-    script.push(read(heap, 3, SIZE)?)?;
-    Ok(script)
+    Ok(vec![in heap;
+        write(heap, 1, SIZE, b"below the mark")?,
+        read(heap, 1, SIZE)?,
+        read(heap, 2, SIZE)?,
+        write(heap, 3, SIZE, b"above the mark")?,
+        read(heap, 3, SIZE)?,
+    ]?)
 }
 
 /// The other four sectors, the dead one among them, and one step too many.
 fn friday(heap: Global) -> Result<Vec<Entry>, AllocError> {
-    let mut script = Vec::new(heap);
-    for _ in 0..4u32 {
-        script.push(step())?;
-    }
-    script.push(report())?;
-    script.push(step())?;
-    script.push(read(heap, 1, SIZE)?)?;
-    script.push(read(heap, 2, SIZE)?)?;
-    script.push(read(heap, 3, SIZE)?)?;
-    Ok(script)
+    Ok(vec![in heap;
+        step(),
+        step(),
+        step(),
+        step(),
+        report(),
+        step(),
+        read(heap, 1, SIZE)?,
+        read(heap, 2, SIZE)?,
+        read(heap, 3, SIZE)?,
+    ]?)
 }
 
 fn day<D: SectorDevice, M: WideMode>(
@@ -105,9 +106,7 @@ fn day<D: SectorDevice, M: WideMode>(
 }
 
 fn week<D: SectorDevice + Drop>(rt: &impl Print, heap: Global, device: D) -> io::Result<()> {
-    let current: Tet<Aes128> = Tet::new();
-    let next: Tet<Aes128> = Tet::new();
-    let mut volume = Volume::new(device, current, next);
+    let mut volume = Volume::new(device, Tet::<Aes128>::new(), Tet::<Aes128>::new());
     day(
         rt,
         "Monday, the module gets its key",
@@ -142,16 +141,13 @@ fn main(rt: HostRuntime) -> io::Result<()> {
         let mut faults = FaultList::new(Image::new(&mut module, 512));
         match faults.enter(4) {
             Ok(()) => println!(rt; "  sector 4 is dead, and listed as such")?,
-            Err(refusal) => {
-                let number = refusal.number();
-                println!(rt; "  sector 4 is not listed: {number}")?
-            }
+            Err(refusal) => println!(rt; "  sector 4 is not listed: {refusal}")?,
         }
         week(&rt, rt.alloc(), faults)?;
     }
     println!(rt; "What the module holds at the end of the week")?;
-    for sector in 0..COUNT {
-        show::stored(&rt, sector, &module[sector * SIZE..sector * SIZE + 16])?;
+    for (sector, bytes) in module.chunks_exact(SIZE).enumerate() {
+        show::stored(&rt, sector, bytes)?;
     }
     Ok(())
 }

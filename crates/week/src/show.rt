@@ -1,31 +1,17 @@
 //! What was done, in words.
 
-use devices::fault::Fault;
 use runs::script::Entry;
+use std::fmt::Display;
 use std::io;
-use volumes::fault::VolumeFault;
 use volumes::phase::Phase;
 
-fn call_answer(rt: &impl Print, answer: Option<Result<(), VolumeFault>>) -> io::Result<()> {
+fn call_answer<E: Display + Drop>(
+    rt: &impl Print,
+    answer: Option<Result<(), E>>,
+) -> io::Result<()> {
     match answer {
         Some(Ok(())) => println!(rt; "done"),
-        Some(Err(fault)) => {
-            let number = fault.refusal.number();
-            println!(rt; "refused with {number}")
-        }
-        None => println!(rt; "not called"),
-    }
-}
-
-fn sector_answer(rt: &impl Print, answer: Option<Result<(), Fault>>) -> io::Result<()> {
-    match answer {
-        Some(Ok(())) => println!(rt; "done"),
-        Some(Err(fault)) => {
-            let number = fault.reason.number();
-            let sector = fault.sector;
-            let depth = fault.depth;
-            println!(rt; "refused with {number}, sector {sector}, depth {depth}")
-        }
+        Some(Err(fault)) => println!(rt; "refused with {fault}"),
         None => println!(rt; "not called"),
     }
 }
@@ -66,7 +52,7 @@ pub fn entry(rt: &impl Print, entry: &Entry) -> io::Result<()> {
             answer,
         } => {
             print!(rt; "  read sector {sector}: ")?;
-            sector_answer(rt, *answer)?;
+            call_answer(rt, *answer)?;
             if let Some(Ok(())) = answer {
                 text(rt, buffer)?;
             }
@@ -74,7 +60,7 @@ pub fn entry(rt: &impl Print, entry: &Entry) -> io::Result<()> {
         }
         Entry::Write { sector, answer, .. } => {
             print!(rt; "  write sector {sector}: ")?;
-            sector_answer(rt, *answer)
+            call_answer(rt, *answer)
         }
         Entry::Begin { answer, .. } => {
             print!(rt; "  begin a key change: ")?;
@@ -97,7 +83,7 @@ pub fn entry(rt: &impl Print, entry: &Entry) -> io::Result<()> {
 /// The first bytes of a stored sector.
 pub fn stored(rt: &impl Print, sector: usize, bytes: &[u8]) -> io::Result<()> {
     print!(rt; "  sector {sector}: ")?;
-    for byte in bytes {
+    for byte in bytes.iter().take(16) {
         print!(rt; "{byte:02x}")?;
     }
     println!(rt; " ..")
