@@ -36,7 +36,7 @@ pub trait SectorDevice {
         ensures sector_is_written { meaning self.new ≡ after_write (meaning self.old) sector buffer.now };
 
     /// The checks of a call, for a device to make first: the sector's number, then the buffer's length.
-    final fn admit(&self, sector: u32, len: usize) -> Result<(), Fault>
+    fn admit(&self, sector: u32, len: usize) -> Result<(), Fault>
         ensures { result ≡ checked (length (meaning self.now).sectors) (meaning self.now).size sector len }
     {
         check(self.count(), self.size(), sector, len)
