@@ -9,9 +9,9 @@ use Rattle.fault_lists.specs.declared.refusal.EnterRefusal.TheVariants.{NoSuchSe
 use Rattle.fault_lists.specs.declared.refusal.ListRefusal.{ListRefusal}
 use Rattle.fault_lists.specs.declared.refusal.ListRefusal.TheVariants.{TooFewPlaces}
 
--- the numbers in the first places of a table
+-- the numbers that a table holds
 abbrev pub held_by : Table → List ℕ
-held_by t = take t.count t.numbers
+held_by t = t.numbers.items
 
 -- whether a number is among those held
 unfoldable pub is_held : List ℕ → ℕ → Bool
