@@ -1,5 +1,5 @@
 ghost use Rattle.std.specs.Prelude.{◌≡◌, ◌<◌, ◌≤◌, [], length};
-ghost use Rattle.fault_lists.specs.Held.{held_by, is_held, Listed, entered, table_answer, listed_check, list_answer};
+ghost use Rattle.fault_lists.specs.Once.{Once};
 
 use crate::refusal::{EnterRefusal, ListRefusal};
 use arrayvec::ArrayVec;
@@ -8,13 +8,16 @@ use devices::fault::{Fault, Reason};
 /// How many numbers a list has room for.
 pub const ROOM: usize = 64;
 
-/// The numbers of a fault list.
+/// The numbers of a fault list, none of them twice.
 #[derive(Drop)]
 pub struct Table {
     numbers: ArrayVec<u32, ROOM>,
+    ghost once: { Once numbers.items },
 }
 
 impl Table {
+    ghost use Rattle.fault_lists.specs.Held.{held_by, is_held, Listed, entered, table_answer, listed_check, list_answer};
+
     pub fn new() -> Table
         ensures { held_by result ≡ [] }
     {
