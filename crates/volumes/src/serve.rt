@@ -21,14 +21,7 @@ fn holds_bytes(buffer: &[u8])
 fn sector_answer(answer: Result<(), ModeFault>, sector: u32) -> Result<(), Fault>
     ensures { result ≡ mode_answer answer sector }
 {
-    match answer {
-        Ok(()) => Ok(()),
-        Err(_) => Err(Fault {
-            reason: Reason::WrongLength,
-            sector,
-            depth: 0,
-        }),
-    }
+    answer.map_err(|_| Fault::new(Reason::WrongLength, sector))
 }
 
 pub fn encipher<M: WideMode>(mode: &M, sector: u32, buffer: &mut [u8]) -> Result<(), Fault>

@@ -22,10 +22,7 @@ pub struct Volume<D: SectorDevice, M: WideMode> {
 fn name(call: CallName, answer: Result<(), Refusal>) -> Result<(), VolumeFault>
     ensures { result ≡ named call answer }
 {
-    match answer {
-        Ok(()) => Ok(()),
-        Err(refusal) => Err(VolumeFault { call, refusal }),
-    }
+    answer.map_err(|refusal| VolumeFault { call, refusal })
 }
 
 impl<D: SectorDevice, M: WideMode> Volume<D, M> {
