@@ -14,13 +14,13 @@ returns-else-is_ok g c =
     record {
       sector_is_rekeyed =
           elim c.else-is_ok.branch [
-            else-is_ok-via-then-is_ok+else-is_ok-2 w ↦
-              c.read.ensures.device_stays
-              ∙ unready k s t m i c.read.new.buffer
-              (read_is k s t m i _ (ap is_ok (sym c.read.ensures.call_is_answered) ∙ sym c.is_ok.ensures.value ∙ w.if-is_ok.true) ∙ ap live (sym c.read.ensures.buffer_is_filled))
-              (ap is_ok (sym w.recipher.ensures.call_is_answered) ∙ sym w.is_ok-then-is_ok.ensures.value ∙ w.if-is_ok-2.false)
-          | else-is_ok-via-else-is_ok w ↦
-              c.read.ensures.device_stays
-              ∙ passed k s t m i _ (search rules) (ap is_ok (sym c.read.ensures.call_is_answered) ∙ sym c.is_ok.ensures.value ∙ w.if-is_ok.false)
+            | else-is_ok-via-then-is_ok+else-is_ok-2 w ↦
+                c.read.ensures.device_stays
+                ∙ unready k s t m i c.read.new.buffer
+                (read_is k s t m i _ (ap is_ok (sym c.read.ensures.call_is_answered) ∙ sym c.is_ok.ensures.value ∙ w.if-is_ok.true) ∙ ap live (sym c.read.ensures.buffer_is_filled))
+                (ap is_ok (sym w.recipher.ensures.call_is_answered) ∙ sym w.is_ok-then-is_ok.ensures.value ∙ w.if-is_ok-2.false)
+            | else-is_ok-via-else-is_ok w ↦
+                c.read.ensures.device_stays
+                ∙ passed k s t m i _ (search rules) (ap is_ok (sym c.read.ensures.call_is_answered) ∙ sym c.is_ok.ensures.value ∙ w.if-is_ok.false)
           ];
     }
