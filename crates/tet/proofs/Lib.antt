@@ -2,4 +2,3 @@ mod Bytes
 mod Chains
 mod Ends
 mod Hashes
-mod Obstacles
