@@ -1,3 +1,4 @@
+mod Bytes
 mod Chains
 mod Ends
 mod Hashes
