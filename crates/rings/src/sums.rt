@@ -42,7 +42,7 @@ pub fn power_sum<R: BlockRing>(tau: R, m: usize) -> R
     let half = m / 2;
     let mut sum = one;
     let mut power = tau;
-    for i in (0..63 - half.leading_zeros()).rev() {
+    for i in (0..half.ilog2()).rev() {
         sum = sum.add(times_first_powers(half >> (i + 1), power, sum));
         power = power.multiply(power);
         if half >> i & 1 == 1 {

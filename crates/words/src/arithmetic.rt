@@ -60,7 +60,7 @@ pub fn multiply<W: Word>(low: W, a: W, b: W) -> W
     ensures { W.value result ≡ product W.size (W.value low) (W.value a) (W.value b) }
 {
     let mut sum = W::zero();
-    for i in (0..(W::bits() - 1) / 8 + 1).rev() {
+    for i in (0..W::bits().div_ceil(8)).rev() {
         sum = times_x8(low, sum).add(times_byte(low, a, b.lowered(8 * i)));
     }
     sum
