@@ -81,7 +81,7 @@ block_inside i n w h =
     omega (arith, mul-le-mul_right w le, div-mul-le_self n w, suc-mul i w)
 
 -- w bytes, or fewer, write a block
-first_below : (w : ℕ) (bs : List ℕ) → AllBelowBase 256 bs → number_from_digits 256 (take w bs) < 2 ^ (8 * w)
+pub first_below : (w : ℕ) (bs : List ℕ) → AllBelowBase 256 bs → number_from_digits 256 (take w bs) < 2 ^ (8 * w)
 first_below w bs under =
     let short : length (take w bs) ≤ w = simp length-take (omega arith) in
     subst (λ (n : ℕ). number_from_digits 256 (take w bs) < n) (pow_bytes w)
