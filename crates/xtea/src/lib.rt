@@ -6,7 +6,7 @@
 
 ghost use Rattle.std.specs.Prelude.{◌≡◌, ℕ, ◌+◌, ◌*◌, ◌/◌, ◌%◌, ◌^◌, ◌<◌, length, replicate, slice_index};
 ghost use Rattle.xtea.specs.Laws.{Undoing};
-ghost use Rattle.xtea.specs.Xtea.{change, key_word, key_words, encipher as enciphered, decipher as deciphered};
+ghost use Rattle.xtea.specs.Xtea.{change, key_words, encipher as enciphered, decipher as deciphered};
 
 const ROUNDS: u32 = 32;
 
