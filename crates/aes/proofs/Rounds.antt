@@ -84,16 +84,7 @@ module _ (table : List ℕ) (s : State) where
   unfolding inv_mix_columns columns column
   inv_mixed_shifted holds = each_same _ _ (λ a b c d. mixed_back table holds a d c b) s ∙ ap inv_mix_columns (shift_back s)
 
-abbrev make : ℕ → ℕ → ℕ → ℕ → State
-make a b c d = record { c0 = a; c1 = b; c2 = c; c3 = d }
-
 module _ (w : List ℕ) where
-  pub added : (r : ℕ) (s : State)
-      → make (bit_xor s.c0 (get_or w (4 * r) 0)) (bit_xor s.c1 (get_or w (4 * r + 1) 0)) (bit_xor s.c2 (get_or w (4 * r + 2) 0)) (bit_xor s.c3 (get_or w (4 * r + 3) 0))
-      ≡ add_round_key w r s
-  unfolding add_round_key columns column
-  added r s = same_state _ _ (ap (λ i. bit_xor s.c0 (get_or w i 0)) (sym (add-zero (4 * r)))) refl refl refl
-
   -- one round more, counted from 1
   pub forth : (s t : State) (r : ℕ) → 1 ≤ r → t ≡ rounds w (r - 1) s
       → add_round_key w r (mix_columns (shift_rows (sub_bytes t))) ≡ rounds w (r + 1 - 1) s

@@ -28,6 +28,7 @@ fn joined(c0: u32, c1: u32, c2: u32, c3: u32) -> u128
 }
 
 impl Columns {
+    #[tactic(auto, unfolding(crate::specs::Aes::state_of, crate::specs::Aes::columns))]
     pub(crate) fn from_block(block: u128) -> Columns
         ensures { state result ≡ state_of block }
     {
@@ -39,12 +40,14 @@ impl Columns {
         }
     }
 
+    #[tactic(auto, unfolding(crate::specs::Aes::block_of))]
     pub(crate) fn block(self) -> u128
         ensures { result ≡ block_of (state self) }
     {
         joined(self.c0, self.c1, self.c2, self.c3)
     }
 
+    #[tactic(auto, unfolding(crate::specs::Aes::add_round_key, crate::specs::Aes::columns, crate::specs::Aes::column))]
     pub(crate) fn add_round_key(self, w: &[u32; 44], round: usize) -> Columns
         requires { round < 11 }
         ensures { state result ≡ add_round_key w.now round (state self) }

@@ -84,11 +84,13 @@ impl Aes128 {
 }
 
 /// The substitution of a byte takes the inverse of every byte but 00, and its reverse undoes it.
+#[tactic(auto, using(crate::proofs::Boxes::substitution))]
 pub fn substitution_is_undone()
     ensures substitution { Substitution }
 {}
 
 /// For every key, each of the two maps undoes the other, and both keep blocks blocks.
+#[tactic(auto, using(crate::proofs::Blocks::undoing))]
 pub fn enciphering_is_undone()
     ensures undoing { Undoing }
 {}

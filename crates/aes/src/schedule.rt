@@ -20,6 +20,7 @@ fn round_constants() -> &'static [u32; 10]
 }
 
 /// What the word before word i adds to word i - 4.
+#[tactic(auto, unfolding(crate::specs::Aes::temp), using(crate::proofs::Expansion::turned_left))]
 fn temp(i: usize, last: u32) -> u32
     requires { (3 < i) × (i < 44) }
     ensures { result ≡ temp i last }

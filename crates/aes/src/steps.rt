@@ -6,6 +6,7 @@ ghost use Rattle.aes.specs.Columns.{substituted, mixed};
 
 use crate::tables;
 
+#[tactic(auto, unfolding(crate::specs::Aes::byte))]
 fn byte(w: u32, row: u32) -> u8
     requires { row < 4 }
     ensures { result ≡ byte row w }
@@ -14,6 +15,7 @@ fn byte(w: u32, row: u32) -> u8
 }
 
 /// A column after the table's substitution of bytes, from the columns that its bytes come from.
+#[tactic(auto, unfolding(crate::specs::Aes::word, crate::specs::Columns::substituted))]
 pub(crate) fn substitute(table: &[u8; 256], a: u32, b: u32, c: u32, d: u32) -> u32
     ensures { result ≡ substituted (slice_index table.now) a b c d }
 {
@@ -26,6 +28,7 @@ pub(crate) fn substitute(table: &[u8; 256], a: u32, b: u32, c: u32, d: u32) -> u
 }
 
 /// A column after the substitution and the mixing of columns that a round table has, from the columns that its bytes come from.
+#[tactic(auto, unfolding(crate::specs::Columns::mixed))]
 pub(crate) fn substitute_and_mix(table: &[u32; 256], a: u32, b: u32, c: u32, d: u32) -> u32
     ensures { result ≡ mixed (slice_index table.now) a b c d }
 {
@@ -35,6 +38,7 @@ pub(crate) fn substitute_and_mix(table: &[u32; 256], a: u32, b: u32, c: u32, d: 
         ^ table[byte(d, 3) as usize].rotate_right(24)
 }
 
+#[tactic(auto, unfolding(crate::specs::Aes::sub_word, crate::specs::Columns::substituted), using(crate::proofs::Rounds::substituted_by))]
 pub(crate) fn sub_word(w: u32) -> u32
     ensures { result ≡ sub_word w }
 {

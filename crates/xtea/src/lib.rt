@@ -16,6 +16,7 @@ const DELTA: u32 = 0x9e37_79b9;
 const LAST_SUM: u32 = 0xc6ef_3720;
 
 /// F(v) xor (s + k)
+#[tactic(auto, unfolding(crate::specs::Xtea::plus, crate::specs::Xtea::F, crate::specs::Xtea::change))]
 fn change_by(v: u32, s: u32, k: u32) -> u32
     ensures { result ≡ change v s k }
 {
@@ -105,6 +106,7 @@ impl Xtea {
 }
 
 /// Each map undoes the other, for every key and every block.
+#[tactic(auto, using(crate::proofs::Undoing::undoing))]
 pub fn deciphering_undoes_enciphering()
     ensures undoing { Undoing }
 {}
