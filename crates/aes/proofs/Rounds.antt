@@ -1,11 +1,11 @@
 -- The rounds as the code makes them, column by column.
-use Rattle.std.proofs.Common.{◌≡◌, ℕ, suc, ◌+◌, ◌-◌, ◌*◌, ◌<◌, ◌≤◌, List, get_or, slice_index, sym, refl, ap, ◌∙◌, add-zero, arith}
+use Rattle.std.proofs.Common.{◌≡◌, ℕ, suc, ◌+◌, ◌-◌, ◌*◌, ◌^◌, ◌<◌, ◌≤◌, List, get_or, slice_index, sym, ap, ◌∙◌, arith}
 use lib.Bits.{bit_xor}
-use Rattle.aes.specs.Aes.{byte, State, column, columns, entry, entries, sbox, inv_sbox, sub_bytes, inv_sub_bytes, shift_rows, inv_shift_rows, mix_column, inv_mix_column, mix_columns, inv_mix_columns, add_round_key, rounds, inv_rounds}
+use Rattle.aes.specs.Aes.{byte, sub_word, State, column, columns, entry, entries, sbox, inv_sbox, sub_bytes, inv_sub_bytes, shift_rows, inv_shift_rows, mix_column, inv_mix_column, mix_columns, inv_mix_columns, add_round_key, rounds, inv_rounds}
 use Rattle.aes.specs.Columns.{substituted, mixed, round_word, inv_round_word, Unmixed}
 use Rattle.aes.specs.Laws.{Tabulates}
-use Rattle.aes.proofs.Boxes.{sbox_lt, inv_sbox_lt}
-use Rattle.aes.proofs.Bytes.{byte_lt, byte_0, byte_1, byte_2, byte_3, word_cong, on_bytes}
+use Rattle.aes.proofs.Boxes.{sbox_lt, inv_sbox_lt, sbox_undone}
+use Rattle.aes.proofs.Bytes.{byte_lt, byte_0, byte_1, byte_2, byte_3, word_cong, on_bytes, on_bytes_undone}
 use Rattle.aes.proofs.Mixes.{inv_mix_linear, merged_cong, mix_merged, inv_mix_merged}
 use Rattle.aes.proofs.States.{same_state, gathered, gathered_0, gathered_1, gathered_2, gathered_3}
 
@@ -29,11 +29,16 @@ mixed_forth table holds a b c d =
     mixed_by round_word table holds a b c d
     ∙ mix_merged (sbox (byte 0 a)) (sbox (byte 1 b)) (sbox (byte 2 c)) (sbox (byte 3 d)) (sbox_lt _) (sbox_lt _) (sbox_lt _) (sbox_lt _)
 
-pub mixed_back : (table : List ℕ) → Tabulates 256 inv_round_word table → (a b c d : ℕ) → mixed (slice_index table) a b c d ≡ inv_mix_column (substituted inv_sbox a b c d)
+mixed_back : (table : List ℕ) → Tabulates 256 inv_round_word table → (a b c d : ℕ) → mixed (slice_index table) a b c d ≡ inv_mix_column (substituted inv_sbox a b c d)
 unfolding mixed substituted
 mixed_back table holds a b c d =
     mixed_by inv_round_word table holds a b c d
     ∙ inv_mix_merged (inv_sbox (byte 0 a)) (inv_sbox (byte 1 b)) (inv_sbox (byte 2 c)) (inv_sbox (byte 3 d)) (inv_sbox_lt _) (inv_sbox_lt _) (inv_sbox_lt _) (inv_sbox_lt _)
+
+pub unmixed_by : (table : List ℕ) → Tabulates 256 inv_round_word table → (w : ℕ) → w < 2 ^ 32
+    → mixed (slice_index table) (sub_word w) (sub_word w) (sub_word w) (sub_word w) ≡ inv_mix_column w
+unfolding sub_word substituted
+unmixed_by table holds w h = mixed_back table holds _ _ _ _ ∙ ap inv_mix_column (on_bytes_undone sbox sbox_lt inv_sbox sbox_undone w h)
 
 -- What is made of each column and the three after it
 

@@ -62,6 +62,7 @@ impl Aes128 {
         &self.key
     }
 
+    #[tactic(auto, unfolding(crate::specs::Aes::rounds, crate::specs::Aes::cipher, crate::specs::Aes::encipher), using(crate::proofs::Rounds::forth))]
     pub fn encipher(&self, block: u128) -> u128
         ensures { result ≡ encipher self.now.key block }
     {
@@ -72,6 +73,7 @@ impl Aes128 {
         columns.last_round(&self.w).block()
     }
 
+    #[tactic(auto, unfolding(crate::specs::Aes::inv_rounds, crate::specs::Aes::inv_cipher, crate::specs::Aes::decipher), using(crate::proofs::Rounds::back))]
     pub fn decipher(&self, block: u128) -> u128
         ensures { result ≡ decipher self.now.key block }
     {

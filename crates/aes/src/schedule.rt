@@ -32,6 +32,7 @@ fn temp(i: usize, last: u32) -> u32
     }
 }
 
+#[tactic(auto, unfolding(crate::specs::Aes::word, crate::specs::Aes::expansion), using(crate::proofs::Chunks::word_at))]
 pub(crate) fn expand(key: &[u8; 16]) -> [u32; 44]
     ensures { result ≡ key_expansion key.now }
 {

@@ -46,6 +46,7 @@ pub(crate) fn sub_word(w: u32) -> u32
 }
 
 /// InvMixColumns of one column: a round of the way back whose InvSubBytes is undone before it.
+#[tactic(auto, using(crate::proofs::Rounds::unmixed_by))]
 pub(crate) fn inv_mix_column(w: u32) -> u32
     ensures { result ≡ inv_mix_column w }
 {

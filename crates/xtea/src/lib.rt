@@ -23,6 +23,7 @@ fn change_by(v: u32, s: u32, k: u32) -> u32
     ((v << 4) ^ (v >> 5)).wrapping_add(v) ^ s.wrapping_add(k)
 }
 
+#[tactic(auto, unfolding(crate::specs::Xtea::key_words), using(crate::proofs::Chunks::word_at))]
 fn key_words(key: &[u8; 16]) -> [u32; 4]
     ensures { result ≡ key_words key.now }
 {
