@@ -24,6 +24,7 @@ mod tests;
 use columns::Columns;
 
 /// AES-128 with the key that it holds, at first 16 zeros.
+// Stays: ghost fields, and no model whose value is the key: `BlockCipher::fitting` is owed at every value, and not every list is a key.
 #[derive(Drop)]
 pub struct Aes128 {
     key: [u8; 16],

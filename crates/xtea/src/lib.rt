@@ -49,6 +49,7 @@ fn block_of(v0: u32, v1: u32) -> u64
 }
 
 /// XTEA under a key; the words of the key are kept beside it.
+// Stays: ghost fields, and no model whose value is the key: `BlockCipher::fitting` is owed at every value, and not every list is a key.
 #[derive(Drop)]
 pub struct Xtea {
     key: [u8; 16],
