@@ -140,7 +140,7 @@ impl<C: BlockCipher> WideMode for Heh<C> {
 
     ghost state = { state_of };
 
-    ghost fitting = { λ m. state_fits m };
+    ghost fitting = { state_fits };
 
     fn key(&mut self, key: &[u8], size: usize) -> Result<(), ModeFault> {
         Heh::key(self, key, size)

@@ -25,4 +25,4 @@ module _ {C R : Type 0} {c : CipherGhosts C R} {r : RingGhosts R} where
     where
       go : (o : Option (Kept C R c r)) → Fitting (kind_over c.kind) (option_map pair_of o)
       go None = tt
-      go (Some k) = not_refused c.kind (c.held k.first) (c.held k.second) (c.fitting k.first) (c.fitting k.second) k.size (key_of r.value k.hash) k.kept
+      go (Some k) = not_refused c.kind (c.held k.first) (c.held k.second) (c.fitting k.first) (c.fitting k.second) k.size (key_of r.value k.hash) k.hash_of_key

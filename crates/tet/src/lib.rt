@@ -43,7 +43,7 @@ struct Keyed<C: BlockCipher> {
     second: C,
     size: usize,
     hash: Hash<C::Ring>,
-    ghost kept: { hash_key C.BlockCipher.kind.ring (C.BlockCipher.kind.encipher (C.BlockCipher.held first)) size ≡ Some (key_of C.Ring.BlockRing.value hash) } by { Prim.hlevel props },
+    ghost hash_of_key: { hash_key C.BlockCipher.kind.ring (C.BlockCipher.kind.encipher (C.BlockCipher.held first)) size ≡ Some (key_of C.Ring.BlockRing.value hash) } by { Prim.hlevel props },
 }
 
 /// The tweak of a sector number: the number in 8 bytes, the first the highest.
@@ -128,7 +128,7 @@ impl<C: BlockCipher> WideMode for Tet<C> {
 
     ghost state = { tet_state };
 
-    ghost fitting = { λ m. state_fits m };
+    ghost fitting = { state_fits };
 
     fn key(&mut self, key: &[u8], size: usize) -> Result<(), ModeFault> {
         Tet::key(self, key, size)

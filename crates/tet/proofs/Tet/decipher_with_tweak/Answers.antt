@@ -23,5 +23,5 @@ returns-clause-buffer_is_deciphered g c =
     c.decipher_sector.ensures
     ∙ ap (λ β. rowwise m.ring.width (deciphered m.ring (k.decipher K2) h β) bs) c.tweak_block-beta.ensures
     ∙ ap (λ r. rowwise r.width (deciphered r (k.decipher K2) h (beta r (k.encipher K1) n tweak)) bs) (sym g.met.C.BlockCipher.over)
-    ∙ decipher_is k K1 K2 (g.C.BlockCipher.fitting keyed.first) (g.C.BlockCipher.fitting keyed.second) n h keyed.kept tweak bs
+    ∙ decipher_is k K1 K2 (g.C.BlockCipher.fitting keyed.first) (g.C.BlockCipher.fitting keyed.second) n h keyed.hash_of_key tweak bs
     ∙ sym (ap₂ (λ s o. ciphered (λ key size. decipher k key size tweak) s o bs) state (sym c.in_ok-keyed.ensures.fault))

@@ -23,5 +23,5 @@ returns-clause-buffer_is_enciphered g c =
     c.encipher_sector.ensures
     ∙ ap (λ β. rowwise m.ring.width (enciphered m.ring (k.encipher K2) h β) bs) c.tweak_block-beta.ensures
     ∙ ap (λ r. rowwise r.width (enciphered r (k.encipher K2) h (beta r (k.encipher K1) n tweak)) bs) (sym g.met.C.BlockCipher.over)
-    ∙ encipher_is k K1 K2 (g.C.BlockCipher.fitting keyed.first) (g.C.BlockCipher.fitting keyed.second) n h keyed.kept tweak bs
+    ∙ encipher_is k K1 K2 (g.C.BlockCipher.fitting keyed.first) (g.C.BlockCipher.fitting keyed.second) n h keyed.hash_of_key tweak bs
     ∙ sym (ap₂ (λ s o. ciphered (λ key size. encipher k key size tweak) s o bs) state (sym c.in_ok-keyed.ensures.fault))
