@@ -1,5 +1,5 @@
 -- A row of bytes and its sector are the same thing.
-use Rattle.std.proofs.Common.{◌≡◌, ℕ, zero, suc, ◌+◌, ◌*◌, ◌/◌, ◌%◌, ◌^◌, ◌<◌, ◌≤◌, true, List, [], ◌∷◌, ◌++◌, length, take, drop, sym, refl, ap, ◌∙◌, subst, ap₂, append_assoc, lt_of_lt_of_le, suc-mul, zero-mul, arith, length-append, length-drop, length-take, take-add}
+use Rattle.std.proofs.Common.{◌≡◌, ℕ, zero, suc, ◌+◌, ◌*◌, ◌/◌, ◌%◌, ◌^◌, ◌<◌, ◌≤◌, true, List, [], ◌∷◌, ◌++◌, length, take, drop, sym, refl, ap, ◌∙◌, subst, ap₂, append_assoc, append-nil, lt_of_lt_of_le, suc-mul, zero-mul, arith, length-append, length-drop, length-take, take-add}
 use native.Mathlib.Nat.{pow-le-pow_right}
 use Rattle.std.specs.Int.Digits.{number_from_digits, AllBelowBase}
 use Rattle.std.proofs.lemmas.Nat.{div-mul-add, div-add-mod', mod_below}
@@ -19,6 +19,12 @@ module _ (w : ℕ) where
   unfolding bytes
   length_bytes [] = sym (zero-mul w)
   length_bytes (x ∷ xs) = length-append (bytes_of w x) (bytes w xs) ∙ ap₂ ◌+◌ (length_bytes_of w x) (length_bytes xs) ∙ omega (arith, suc-mul (length xs) w)
+
+  -- one block more
+  pub bytes_push : (xs : List ℕ) (x : ℕ) → bytes w (xs ++ (x ∷ [])) ≡ bytes w xs ++ bytes_of w x
+  unfolding bytes
+  bytes_push [] x = append-nil (bytes_of w x)
+  bytes_push (y ∷ ys) x = ap (λ (l : List ℕ). bytes_of w y ++ l) (bytes_push ys x) ∙ sym (append_assoc (bytes_of w y) (bytes w ys) (bytes_of w x))
 
   under_bytes : (xs : List ℕ) → AllBelowBase 256 (bytes w xs)
   unfolding bytes
