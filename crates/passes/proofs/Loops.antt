@@ -137,7 +137,7 @@ drop_placewise f k zero xs = ap (λ n. placewise f n xs) (sym (add-zero k))
 drop_placewise f k (suc i) [] = refl
 drop_placewise f k (suc i) (x ∷ xs) = drop_placewise f (suc k) i xs ∙ ap (λ n. placewise f n (drop i xs)) (omega arith)
 
-placewise_same : (f : ℕ → ℕ → ℕ) (k : ℕ) (xs : List ℕ) → ((i x : ℕ) → k ≤ i → i < k + length xs → f i x ≡ x) → placewise f k xs ≡ xs
+pub placewise_same : (f : ℕ → ℕ → ℕ) (k : ℕ) (xs : List ℕ) → ((i x : ℕ) → k ≤ i → i < k + length xs → f i x ≡ x) → placewise f k xs ≡ xs
 unfolding placewise
 placewise_same f k [] same = refl
 placewise_same f k (x ∷ xs) same = λ t. same k x (omega arith) (omega arith) t ∷ placewise_same f (suc k) xs (λ i y h l. same i y (omega arith) (omega arith)) t

@@ -1,3 +1,4 @@
 mod Chains
 mod Ends
 mod Hashes
+mod Steps
