@@ -2,3 +2,4 @@ mod Bytes
 mod Chains
 mod Ends
 mod Hashes
+mod Steps
