@@ -9,9 +9,8 @@ use Rattle.records.specs.declared.Cipher.TheVariants.{Aes128, Xtea, Mask1, Mask8
 use Rattle.records.specs.declared.Direction.{Direction}
 use Rattle.records.specs.declared.Direction.TheVariants.{Encipher, Decipher}
 use Rattle.records.specs.Codes.{mode_named, cipher_named, direction_named}
-use Rattle.records.specs.Record.{split, mapped}
+use Rattle.records.specs.Record.{Part, code, field, split, stands, fields, ended, named, mapped}
 use Rattle.records.specs.Writing.{mode_code, cipher_code, direction_code, behind_length, record_of, Reading}
-use Rattle.records.proofs.Fronts.{fields_are}
 
 mode_is_named : (m : Mode) → mode_named (mode_code m) ≡ Some m
 mode_is_named Tet = refl
@@ -27,6 +26,17 @@ cipher_is_named Mask16 = refl
 direction_is_named : (d : Direction) → direction_named (direction_code d) ≡ Some d
 direction_is_named Encipher = refl
 direction_is_named Decipher = refl
+
+-- six parts, one after the other
+fields_are : (map : ℕ) (bs : List ℕ) (m c d : Part ℕ) (k t s : Part (List ℕ)) →
+    Some m ≡ code (stands 0 map) 1 bs →
+    Some c ≡ code (stands 1 map) 1 m.rest →
+    Some d ≡ code (stands 2 map) 0 c.rest →
+    Some k ≡ field (stands 3 map) d.rest →
+    Some t ≡ field (stands 4 map) k.rest →
+    Some s ≡ field (stands 5 map) t.rest →
+    ended s.rest (named (mode_named m.value) (cipher_named c.value) (direction_named d.value) k.value t.value s.value) ≡ fields map bs
+fields_are map bs m c d k t s em ec ed ek et es = rw (← em, ← ec, ← ed, ← ek, ← et, ← es)
 
 -- so many bytes off the front
 split_front : (n : ℕ) (bs rest : List ℕ) → length bs ≡ n → Some (record { value = bs; rest = rest }) ≡ split n (bs ++ rest)
