@@ -7,16 +7,13 @@
 #![tactic(auto)]
 
 ghost use Rattle.std.specs.Prelude.{◌≡◌, ◌≤◌, length, IfOk};
-ghost use Rattle.modes.specs.Faults.{answered};
-ghost use Rattle.modes.specs.Mode.{ciphered};
 ghost use Rattle.records.specs.Views.{task_of};
 ghost use Rattle.jobs.specs.Answers.{count, place_after};
 ghost use Rattle.jobs.specs.Names.{cipher_of, mode_over};
 ghost use Rattle.jobs.specs.Laws.{Returning};
-ghost use Rattle.jobs.specs.Outcome.{map_of, given, outcome as outcome_of, sector_in};
-ghost use Rattle.tweak_modes.specs.Tweaked.{obstacle_of};
+ghost use Rattle.jobs.specs.Outcome.{given, outcome as outcome_of, sector_in};
 
-use crate::answers::{write_refusal, write_sector};
+use crate::answers::write_answer;
 use crate::refusal::{PlaceFault, Refusal};
 use aes::Aes128;
 use arrayvec::ArrayVec;
@@ -41,30 +38,18 @@ const LEAST_PLACE: usize = 4099;
 /// A sector of a job.
 type Sector = ArrayVec<u8, LONGEST_SECTOR>;
 
-/// Ciphers a sector in place with a mode that holds a key, in the direction asked for.
-fn turn<M: TweakMode>(
-    mode: &M,
-    direction: Direction,
-    tweak: &[u8],
-    sector: &mut [u8],
-) -> Result<(), ModeFault>
-    ensures answer { result ≡ answered (obstacle_of M.kind (M.state mode.now) tweak.now sector.old) }
-    ensures sector { sector.new ≡ ciphered (λ key size. map_of M.kind direction key size tweak.now) (M.state mode.now) (obstacle_of M.kind (M.state mode.now) tweak.now sector.old) sector.old }
-{
-    match direction {
-        Direction::Encipher => mode.encipher_with_tweak(tweak, sector),
-        Direction::Decipher => mode.decipher_with_tweak(tweak, sector),
-    }
-}
-
 /// The sector that a job gives with a mode.
 fn cipher<M: TweakMode>(job: &Job<'_>) -> Result<Sector, ModeFault>
     ensures { sector_in result ≡ given M.kind (task_of job.now) }
 {
     let mut mode = M::blank();
     mode.key(job.key, job.sector.len())?;
+    // The mode took the length, so the sector fits.
     let mut sector = Sector::try_from(job.sector).unwrap();
-    turn(&mode, job.direction, job.tweak, &mut sector)?;
+    match job.direction {
+        Direction::Encipher => mode.encipher_with_tweak(job.tweak, &mut sector)?,
+        Direction::Decipher => mode.decipher_with_tweak(job.tweak, &mut sector)?,
+    }
     Ok(sector)
 }
 
@@ -109,10 +94,7 @@ pub fn work(record: &[u8], place: &mut [u8]) -> Result<usize, PlaceFault>
     let Some(front) = place.first_chunk_mut::<LEAST_PLACE>() else {
         return Err(PlaceFault::Short);
     };
-    Ok(match outcome(record) {
-        Ok(sector) => write_sector(&sector, front),
-        Err(refusal) => write_refusal(refusal, front),
-    })
+    Ok(write_answer(outcome(record), front))
 }
 
 /// Whatever the job: where its record gives a sector, a record of the other direction, with that sector, gives back the job's

@@ -35,7 +35,10 @@ impl fmt::Display for Refusal {
     ghost output = { λ refusal. Some (decimal (refusal_number refusal)) };
 
     fn fmt<W: fmt::Write>(&self, f: &mut fmt::Formatter<W>) -> fmt::Result {
-        self.number().fmt(f)
+        match self {
+            Refusal::Record(fault) => write!(f, "{fault}"),
+            Refusal::Mode(fault) => write!(f, "{}", fault.number()),
+        }
     }
 }
 
@@ -80,7 +83,7 @@ impl fmt::Display for PlaceFault {
     ghost output = { λ fault. Some (decimal (place_fault_number fault)) };
 
     fn fmt<W: fmt::Write>(&self, f: &mut fmt::Formatter<W>) -> fmt::Result {
-        self.number().fmt(f)
+        write!(f, "{}", self.number())
     }
 }
 

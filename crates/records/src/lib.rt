@@ -58,7 +58,7 @@ impl fmt::Display for RecordFault {
     ghost output = { λ fault. Some (decimal (record_fault_number fault)) };
 
     fn fmt<W: fmt::Write>(&self, f: &mut fmt::Formatter<W>) -> fmt::Result {
-        self.number().fmt(f)
+        write!(f, "{}", self.number())
     }
 }
 
@@ -194,13 +194,13 @@ fn fields(map: u8, bytes: &[u8]) -> Option<Job<'_>>
 }
 
 /// The job that a record asks for, or that it is malformed.
-pub fn read(record: &[u8]) -> Result<Job<'_>, RecordFault>
-    ensures job { job_or result ≡ read_as «record».now }
+pub fn read(bytes: &[u8]) -> Result<Job<'_>, RecordFault>
+    ensures job { job_or result ≡ read_as bytes.now }
 {
-    match record {
-        [map @ 0..=63, bytes @ ..]
-            if record.len() <= LONGEST && stands(*map, KEY) && stands(*map, SECTOR) => {
-            fields(*map, bytes).ok_or(RecordFault::Malformed)
+    match bytes {
+        [map @ 0..=63, rest @ ..]
+            if bytes.len() <= LONGEST && stands(*map, KEY) && stands(*map, SECTOR) => {
+            fields(*map, rest).ok_or(RecordFault::Malformed)
         }
         _ => Err(RecordFault::Malformed),
     }

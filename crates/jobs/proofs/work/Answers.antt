@@ -1,19 +1,18 @@
-use Rattle.std.proofs.Common.{Ok, Err, arith}
-use Rattle.jobs.proofs.Places.{counted, placed}
+use Rattle.std.proofs.Common.{arith, length}
+use Rattle.std.proofs.lemmas.Bool.{le-leb}
+use Rattle.jobs.specs.Answers.{answer_of}
+use Rattle.jobs.specs.Outcome.{sector_in}
+use Rattle.jobs.proofs.Places.{written_front}
 use Rattle.jobs.proofs.work.Goals as goal
 
-pub returns-in-Ok-clause-bytes_are_counted : goal.returns-in-Ok-clause-bytes_are_counted
-returns-in-Ok-clause-bytes_are_counted c =
-    counted c.args.record.now c.args.place.now c.in-Some.front.now (Ok c.in-Ok.sector.items) c.in-Ok.ensures c.in-Some.ensures.cases c.write_sector.result c.write_sector.ensures.count
+pub returns-clause-bytes_are_counted : goal.returns-clause-bytes_are_counted
+returns-clause-bytes_are_counted c =
+    let room = le-leb 4099 (length c.args.place.now) c.in-Some.ensures.cases.enough in
+    rw (c.write_answer.ensures.count, c.outcome.ensures, room)
 
-pub returns-in-Ok-clause-answer_is_written : goal.returns-in-Ok-clause-answer_is_written
-returns-in-Ok-clause-answer_is_written c =
-    placed c.args.record.now c.args.place.now c.in-Some.front.now (Ok c.in-Ok.sector.items) c.in-Ok.ensures c.in-Some.ensures.cases c.write_sector.new.place c.write_sector.ensures.place (omega arith)
-
-pub returns-in-Err-clause-bytes_are_counted : goal.returns-in-Err-clause-bytes_are_counted
-returns-in-Err-clause-bytes_are_counted c =
-    counted c.args.record.now c.args.place.now c.in-Some.front.now (Err c.in-Err.refusal) c.in-Err.ensures c.in-Some.ensures.cases c.write_refusal.result c.write_refusal.ensures.count
-
-pub returns-in-Err-clause-answer_is_written : goal.returns-in-Err-clause-answer_is_written
-returns-in-Err-clause-answer_is_written c =
-    placed c.args.record.now c.args.place.now c.in-Some.front.now (Err c.in-Err.refusal) c.in-Err.ensures c.in-Some.ensures.cases c.write_refusal.new.place c.write_refusal.ensures.place (omega arith)
+pub returns-clause-answer_is_written : goal.returns-clause-answer_is_written
+returns-clause-answer_is_written c =
+    let place = c.args.place.now in
+    let room = le-leb 4099 (length place) c.in-Some.ensures.cases.enough in
+    let done = written_front (answer_of (sector_in c.outcome.result)) c.in-Some.front.now place (omega arith) c.in-Some.ensures.cases in
+    rw (c.write_answer.ensures.place, done, c.outcome.ensures, room)
