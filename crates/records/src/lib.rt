@@ -151,7 +151,7 @@ impl TryFrom<u8> for Direction {
 }
 
 /// What a record asks for. Key, tweak and sector lie in the record.
-#[derive(Clone, Copy, PartialEq, Eq, Debug)]
+#[derive(Clone, Copy)]
 pub struct Job<'a> {
     pub mode: Mode,
     pub cipher: Cipher,
