@@ -2,7 +2,7 @@
 use Rattle.std.proofs.Common.{◌≡◌, ℕ, suc, ◌+◌, ◌-◌, ◌*◌, ◌/◌, ◌%◌, ◌^◌, ◌<◌, ◌≤◌, List, [], ◌∷◌, ◌++◌, length, get_or, take, set, sym, refl, ap, ◌∙◌, ap₂, arith, get_or-take}
 use lib.Bits.{bit_or, bit_xor}
 use Rattle.std.proofs.lemmas.List.{take_more_set}
-use Rattle.aes.specs.Aes.{byte, sub_word, rot_word, temp, next, expansion}
+use Rattle.aes.specs.Aes.{byte, sbox, sub_word, rot_word, temp, next, expansion}
 use Rattle.aes.specs.Columns.{substituted}
 use Rattle.aes.proofs.Bytes.{byte_lt, word_bytes, left_bytes}
 
@@ -12,7 +12,7 @@ turned_left w h =
     ap (λ x. bit_or (x * 2 ^ 8 % 2 ^ 32) (x / 2 ^ 24)) (sym (word_bytes w h))
     ∙ left_bytes (byte 0 w) (byte 1 w) (byte 2 w) (byte 3 w) (byte_lt 0 w) (byte_lt 1 w) (byte_lt 2 w) (byte_lt 3 w)
 
-pub substituted_word : (w : ℕ) → substituted w w w w ≡ sub_word w
+pub substituted_word : (w : ℕ) → substituted sbox w w w w ≡ sub_word w
 unfolding substituted sub_word
 substituted_word w = refl
 

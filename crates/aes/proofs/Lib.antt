@@ -1,6 +1,7 @@
 pub mod Blocks
 pub mod Boxes
 pub mod Bytes
+pub mod Chunks
 pub mod Computed
 pub mod Expansion
 pub mod Mixes

@@ -1,17 +1,58 @@
 -- The rounds as the code makes them, column by column.
-use Rattle.std.proofs.Common.{◌≡◌, ℕ, suc, ◌+◌, ◌-◌, ◌*◌, ◌<◌, ◌≤◌, List, get_or, sym, refl, ap, ◌∙◌, add-zero, arith}
+use Rattle.std.proofs.Common.{◌≡◌, ℕ, suc, ◌+◌, ◌-◌, ◌*◌, ◌^◌, ◌<◌, ◌≤◌, List, get_or, slice_index, sym, ap, ◌∙◌, arith}
 use lib.Bits.{bit_xor}
-use Rattle.aes.specs.Aes.{byte, State, column, columns, entry, entries, sbox, inv_sbox, sub_bytes, inv_sub_bytes, shift_rows, inv_shift_rows, mix_column, inv_mix_column, mix_columns, inv_mix_columns, add_round_key, rounds, inv_rounds}
-use Rattle.aes.specs.Columns.{substituted, inv_substituted, Unmixed}
-use Rattle.aes.proofs.Boxes.{sbox_lt}
-use Rattle.aes.proofs.Bytes.{byte_0, byte_1, byte_2, byte_3, word_cong, on_bytes}
-use Rattle.aes.proofs.Mixes.{inv_mix_linear}
+use Rattle.aes.specs.Aes.{byte, sub_word, State, column, columns, entry, entries, sbox, inv_sbox, sub_bytes, inv_sub_bytes, shift_rows, inv_shift_rows, mix_column, inv_mix_column, mix_columns, inv_mix_columns, add_round_key, rounds, inv_rounds}
+use Rattle.aes.specs.Columns.{substituted, mixed, round_word, inv_round_word, Unmixed}
+use Rattle.aes.specs.Laws.{Tabulates}
+use Rattle.aes.proofs.Boxes.{sbox_lt, inv_sbox_lt, sbox_undone}
+use Rattle.aes.proofs.Bytes.{byte_lt, byte_0, byte_1, byte_2, byte_3, word_cong, on_bytes, on_bytes_undone}
+use Rattle.aes.proofs.Mixes.{inv_mix_linear, merged_cong, mix_merged, inv_mix_merged}
 use Rattle.aes.proofs.States.{same_state, gathered, gathered_0, gathered_1, gathered_2, gathered_3}
 
-abbrev pub make : ℕ → ℕ → ℕ → ℕ → State
-make a b c d = record { c0 = a; c1 = b; c2 = c; c3 = d }
+-- What a table says at the bytes of columns
 
-substituted_is : (a b c d : ℕ) → substituted a b c d ≡ gathered (on_bytes sbox a) (on_bytes sbox b) (on_bytes sbox c) (on_bytes sbox d)
+module _ (f : ℕ → ℕ) (table : List ℕ) (holds : Tabulates 256 f table) where
+  at : (r w : ℕ) → slice_index table (byte r w) ≡ f (byte r w)
+  at r w = holds.entries (byte r w) (byte_lt r w)
+
+  pub substituted_by : (a b c d : ℕ) → substituted (slice_index table) a b c d ≡ substituted f a b c d
+  unfolding substituted
+  substituted_by a b c d = word_cong (at 0 a) (at 1 b) (at 2 c) (at 3 d)
+
+  mixed_by : (a b c d : ℕ) → mixed (slice_index table) a b c d ≡ mixed f a b c d
+  unfolding mixed
+  mixed_by a b c d = merged_cong (at 0 a) (at 1 b) (at 2 c) (at 3 d)
+
+mixed_forth : (table : List ℕ) → Tabulates 256 round_word table → (a b c d : ℕ) → mixed (slice_index table) a b c d ≡ mix_column (substituted sbox a b c d)
+unfolding mixed substituted
+mixed_forth table holds a b c d =
+    mixed_by round_word table holds a b c d
+    ∙ mix_merged (sbox (byte 0 a)) (sbox (byte 1 b)) (sbox (byte 2 c)) (sbox (byte 3 d)) (sbox_lt _) (sbox_lt _) (sbox_lt _) (sbox_lt _)
+
+mixed_back : (table : List ℕ) → Tabulates 256 inv_round_word table → (a b c d : ℕ) → mixed (slice_index table) a b c d ≡ inv_mix_column (substituted inv_sbox a b c d)
+unfolding mixed substituted
+mixed_back table holds a b c d =
+    mixed_by inv_round_word table holds a b c d
+    ∙ inv_mix_merged (inv_sbox (byte 0 a)) (inv_sbox (byte 1 b)) (inv_sbox (byte 2 c)) (inv_sbox (byte 3 d)) (inv_sbox_lt _) (inv_sbox_lt _) (inv_sbox_lt _) (inv_sbox_lt _)
+
+pub unmixed_by : (table : List ℕ) → Tabulates 256 inv_round_word table → (w : ℕ) → w < 2 ^ 32
+    → mixed (slice_index table) (sub_word w) (sub_word w) (sub_word w) (sub_word w) ≡ inv_mix_column w
+unfolding sub_word substituted
+unmixed_by table holds w h = mixed_back table holds _ _ _ _ ∙ ap inv_mix_column (on_bytes_undone sbox sbox_lt inv_sbox sbox_undone w h)
+
+-- What is made of each column and the three after it
+
+abbrev pub each : (ℕ → ℕ → ℕ → ℕ → ℕ) → State → State
+each g s = record { c0 = g s.c0 s.c1 s.c2 s.c3; c1 = g s.c1 s.c2 s.c3 s.c0; c2 = g s.c2 s.c3 s.c0 s.c1; c3 = g s.c3 s.c0 s.c1 s.c2 }
+
+-- and with these three in the other order
+abbrev pub each_back : (ℕ → ℕ → ℕ → ℕ → ℕ) → State → State
+each_back g = each (λ a b c d. g a d c b)
+
+each_same : (g h : ℕ → ℕ → ℕ → ℕ → ℕ) → ((a b c d : ℕ) → g a b c d ≡ h a b c d) → (s : State) → each g s ≡ each h s
+each_same g h same s = same_state _ _ (same _ _ _ _) (same _ _ _ _) (same _ _ _ _) (same _ _ _ _)
+
+substituted_is : (a b c d : ℕ) → substituted sbox a b c d ≡ gathered (on_bytes sbox a) (on_bytes sbox b) (on_bytes sbox c) (on_bytes sbox d)
 unfolding substituted
 substituted_is a b c d =
     let s : (r w : ℕ) → sbox (byte r w) < 256 = λ r w. sbox_lt (byte r w) in
@@ -20,46 +61,35 @@ substituted_is a b c d =
     (byte_0 _ _ _ _ (s 0 a) (s 1 a) (s 2 a) (s 3 a)) (byte_1 _ _ _ _ (s 0 b) (s 1 b) (s 2 b) (s 3 b))
     (byte_2 _ _ _ _ (s 0 c) (s 1 c) (s 2 c) (s 3 c)) (byte_3 _ _ _ _ (s 0 d) (s 1 d) (s 2 d) (s 3 d)))
 
-inv_substituted_is : (a b c d : ℕ) → inv_substituted a b c d ≡ on_bytes inv_sbox (gathered a b c d)
-unfolding inv_substituted
+inv_substituted_is : (a b c d : ℕ) → substituted inv_sbox a b c d ≡ on_bytes inv_sbox (gathered a b c d)
+unfolding substituted
 inv_substituted_is a b c d =
     sym (word_cong (ap inv_sbox (gathered_0 a b c d)) (ap inv_sbox (gathered_1 a b c d)) (ap inv_sbox (gathered_2 a b c d)) (ap inv_sbox (gathered_3 a b c d)))
 
-module _ (s : State) (p q u v : ℕ) where
-  pub shifted : p ≡ substituted s.c0 s.c1 s.c2 s.c3 → q ≡ substituted s.c1 s.c2 s.c3 s.c0
-      → u ≡ substituted s.c2 s.c3 s.c0 s.c1 → v ≡ substituted s.c3 s.c0 s.c1 s.c2
-      → make p q u v ≡ shift_rows (sub_bytes s)
-  unfolding shift_rows sub_bytes columns column entry entries
-  shifted ep eq eu ev =
-      same_state _ _ (ep ∙ substituted_is _ _ _ _) (eq ∙ substituted_is _ _ _ _) (eu ∙ substituted_is _ _ _ _) (ev ∙ substituted_is _ _ _ _)
+shift_forth : (s : State) → each (substituted sbox) s ≡ shift_rows (sub_bytes s)
+unfolding shift_rows sub_bytes columns column entry entries
+shift_forth s = same_state _ _ (substituted_is _ _ _ _) (substituted_is _ _ _ _) (substituted_is _ _ _ _) (substituted_is _ _ _ _)
 
-  pub inv_shifted : p ≡ inv_substituted s.c0 s.c3 s.c2 s.c1 → q ≡ inv_substituted s.c1 s.c0 s.c3 s.c2
-      → u ≡ inv_substituted s.c2 s.c1 s.c0 s.c3 → v ≡ inv_substituted s.c3 s.c2 s.c1 s.c0
-      → make p q u v ≡ inv_sub_bytes (inv_shift_rows s)
-  unfolding inv_shift_rows inv_sub_bytes columns column entry entries
-  inv_shifted ep eq eu ev =
-      same_state _ _ (ep ∙ inv_substituted_is _ _ _ _) (eq ∙ inv_substituted_is _ _ _ _) (eu ∙ inv_substituted_is _ _ _ _) (ev ∙ inv_substituted_is _ _ _ _)
+shift_back : (s : State) → each_back (substituted inv_sbox) s ≡ inv_sub_bytes (inv_shift_rows s)
+unfolding inv_shift_rows inv_sub_bytes columns column entry entries
+shift_back s = same_state _ _ (inv_substituted_is _ _ _ _) (inv_substituted_is _ _ _ _) (inv_substituted_is _ _ _ _) (inv_substituted_is _ _ _ _)
 
-module _ (s : State) (p q u v : ℕ) where
-  pub mixed : p ≡ mix_column (substituted s.c0 s.c1 s.c2 s.c3) → q ≡ mix_column (substituted s.c1 s.c2 s.c3 s.c0)
-      → u ≡ mix_column (substituted s.c2 s.c3 s.c0 s.c1) → v ≡ mix_column (substituted s.c3 s.c0 s.c1 s.c2)
-      → make p q u v ≡ mix_columns (shift_rows (sub_bytes s))
+module _ (table : List ℕ) (s : State) where
+  pub shifted : Tabulates 256 sbox table → each (substituted (slice_index table)) s ≡ shift_rows (sub_bytes s)
+  shifted holds = each_same _ _ (substituted_by sbox table holds) s ∙ shift_forth s
+
+  pub inv_shifted : Tabulates 256 inv_sbox table → each_back (substituted (slice_index table)) s ≡ inv_sub_bytes (inv_shift_rows s)
+  inv_shifted holds = each_same _ _ (λ a b c d. substituted_by inv_sbox table holds a d c b) s ∙ shift_back s
+
+  pub mixed_shifted : Tabulates 256 round_word table → each (mixed (slice_index table)) s ≡ mix_columns (shift_rows (sub_bytes s))
   unfolding mix_columns columns column
-  mixed ep eq eu ev = same_state _ _ ep eq eu ev ∙ ap mix_columns (shifted s _ _ _ _ refl refl refl refl)
+  mixed_shifted holds = each_same _ _ (mixed_forth table holds) s ∙ ap mix_columns (shift_forth s)
 
-  pub inv_mixed : p ≡ inv_mix_column (inv_substituted s.c0 s.c3 s.c2 s.c1) → q ≡ inv_mix_column (inv_substituted s.c1 s.c0 s.c3 s.c2)
-      → u ≡ inv_mix_column (inv_substituted s.c2 s.c1 s.c0 s.c3) → v ≡ inv_mix_column (inv_substituted s.c3 s.c2 s.c1 s.c0)
-      → make p q u v ≡ inv_mix_columns (inv_sub_bytes (inv_shift_rows s))
+  pub inv_mixed_shifted : Tabulates 256 inv_round_word table → each_back (mixed (slice_index table)) s ≡ inv_mix_columns (inv_sub_bytes (inv_shift_rows s))
   unfolding inv_mix_columns columns column
-  inv_mixed ep eq eu ev = same_state _ _ ep eq eu ev ∙ ap inv_mix_columns (inv_shifted s _ _ _ _ refl refl refl refl)
+  inv_mixed_shifted holds = each_same _ _ (λ a b c d. mixed_back table holds a d c b) s ∙ ap inv_mix_columns (shift_back s)
 
 module _ (w : List ℕ) where
-  pub added : (r : ℕ) (s : State)
-      → make (bit_xor s.c0 (get_or w (4 * r) 0)) (bit_xor s.c1 (get_or w (4 * r + 1) 0)) (bit_xor s.c2 (get_or w (4 * r + 2) 0)) (bit_xor s.c3 (get_or w (4 * r + 3) 0))
-      ≡ add_round_key w r s
-  unfolding add_round_key columns column
-  added r s = same_state _ _ (ap (λ i. bit_xor s.c0 (get_or w i 0)) (sym (add-zero (4 * r)))) refl refl refl
-
   -- one round more, counted from 1
   pub forth : (s t : State) (r : ℕ) → 1 ≤ r → t ≡ rounds w (r - 1) s
       → add_round_key w r (mix_columns (shift_rows (sub_bytes t))) ≡ rounds w (r + 1 - 1) s

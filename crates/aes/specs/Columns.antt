@@ -7,12 +7,9 @@ use Rattle.aes.specs.declared.columns.Columns.{Columns}
 abbrev pub state : Columns → State
 state s = record { c0 = s.c0; c1 = s.c1; c2 = s.c2; c3 = s.c3 }
 
--- a column after SubBytes and ShiftRows, from the columns that its bytes come from
-unfoldable pub substituted : ℕ → ℕ → ℕ → ℕ → ℕ
-substituted a b c d = word (sbox (byte 0 a)) (sbox (byte 1 b)) (sbox (byte 2 c)) (sbox (byte 3 d))
-
-unfoldable pub inv_substituted : ℕ → ℕ → ℕ → ℕ → ℕ
-inv_substituted a b c d = word (inv_sbox (byte 0 a)) (inv_sbox (byte 1 b)) (inv_sbox (byte 2 c)) (inv_sbox (byte 3 d))
+-- a column after f on each byte, from the columns that its bytes come from
+unfoldable pub substituted : (ℕ → ℕ) → ℕ → ℕ → ℕ → ℕ → ℕ
+substituted f a b c d = word (f (byte 0 a)) (f (byte 1 b)) (f (byte 2 c)) (f (byte 3 d))
 
 -- entry x of the round tables
 abbrev pub round_word : ℕ → ℕ
@@ -28,6 +25,10 @@ turned k w = bit_or (w / 2 ^ k) (w * 2 ^ (32 - k) % 2 ^ 32)
 -- four words of a round table, each turned to its row, and added up
 abbrev pub merged : ℕ → ℕ → ℕ → ℕ → ℕ
 merged a b c d = bit_xor (bit_xor (bit_xor a (turned 8 b)) (turned 16 c)) (turned 24 d)
+
+-- a column by a round table t, from the columns that its bytes come from
+unfoldable pub mixed : (ℕ → ℕ) → ℕ → ℕ → ℕ → ℕ → ℕ
+mixed t a b c d = merged (t (byte 0 a)) (t (byte 1 b)) (t (byte 2 c)) (t (byte 3 d))
 
 -- 5.3.5: the schedule of the equivalent inverse cipher, InvMixColumns of each word
 abbrev pub Unmixed : List ℕ → List ℕ → Type 0

@@ -4,7 +4,7 @@ ghost use Rattle.std.specs.Prelude.{◌≡◌, ℕ, ◌+◌, ◌-◌, ◌*◌, �
 ghost use Rattle.aes.specs.Aes.{state_of, block_of, sub_bytes, shift_rows, mix_columns, add_round_key, inv_sub_bytes, inv_shift_rows, inv_mix_columns};
 ghost use Rattle.aes.specs.Columns.{state};
 
-use crate::steps;
+use crate::{steps, tables};
 
 #[derive(Clone, Copy)]
 pub(crate) struct Columns {
@@ -28,6 +28,7 @@ fn joined(c0: u32, c1: u32, c2: u32, c3: u32) -> u128
 }
 
 impl Columns {
+    #[tactic(auto, unfolding(crate::specs::Aes::state_of, crate::specs::Aes::columns))]
     pub(crate) fn from_block(block: u128) -> Columns
         ensures { state result ≡ state_of block }
     {
@@ -39,12 +40,14 @@ impl Columns {
         }
     }
 
+    #[tactic(auto, unfolding(crate::specs::Aes::block_of))]
     pub(crate) fn block(self) -> u128
         ensures { result ≡ block_of (state self) }
     {
         joined(self.c0, self.c1, self.c2, self.c3)
     }
 
+    #[tactic(auto, unfolding(crate::specs::Aes::add_round_key, crate::specs::Aes::columns, crate::specs::Aes::column))]
     pub(crate) fn add_round_key(self, w: &[u32; 44], round: usize) -> Columns
         requires { round < 11 }
         ensures { state result ≡ add_round_key w.now round (state self) }
@@ -57,58 +60,56 @@ impl Columns {
         }
     }
 
+    /// What f makes of each column and the three after it, from which ShiftRows takes its bytes.
+    fn of_each<F: Fn(u32, u32, u32, u32) -> u32>(self, f: F) -> Columns
+        requires { F.IsAlwaysCallable f }
+        ensures c0 { F.post f self.c0 self.c1 self.c2 self.c3 result.c0 }
+        ensures c1 { F.post f self.c1 self.c2 self.c3 self.c0 result.c1 }
+        ensures c2 { F.post f self.c2 self.c3 self.c0 self.c1 result.c2 }
+        ensures c3 { F.post f self.c3 self.c0 self.c1 self.c2 result.c3 }
+    {
+        let Columns { c0, c1, c2, c3 } = self;
+        Columns {
+            c0: f(c0, c1, c2, c3),
+            c1: f(c1, c2, c3, c0),
+            c2: f(c2, c3, c0, c1),
+            c3: f(c3, c0, c1, c2),
+        }
+    }
+
     pub(crate) fn round(self, w: &[u32; 44], round: usize) -> Columns
         requires { round < 11 }
         ensures { state result ≡ add_round_key w.now round (mix_columns (shift_rows (sub_bytes (state self)))) }
     {
-        let Columns { c0, c1, c2, c3 } = self;
-        let mixed = Columns {
-            c0: steps::round_column(c0, c1, c2, c3),
-            c1: steps::round_column(c1, c2, c3, c0),
-            c2: steps::round_column(c2, c3, c0, c1),
-            c3: steps::round_column(c3, c0, c1, c2),
-        };
-        mixed.add_round_key(w, round)
+        let table = tables::round();
+        self.of_each(|a, b, c, d| steps::substitute_and_mix(table, a, b, c, d))
+            .add_round_key(w, round)
     }
 
     pub(crate) fn last_round(self, w: &[u32; 44]) -> Columns
         ensures { state result ≡ add_round_key w.now 10 (shift_rows (sub_bytes (state self))) }
     {
-        let Columns { c0, c1, c2, c3 } = self;
-        let shifted = Columns {
-            c0: steps::substitute(c0, c1, c2, c3),
-            c1: steps::substitute(c1, c2, c3, c0),
-            c2: steps::substitute(c2, c3, c0, c1),
-            c3: steps::substitute(c3, c0, c1, c2),
-        };
-        shifted.add_round_key(w, 10)
+        let table = tables::substitution();
+        self.of_each(|a, b, c, d| steps::substitute(table, a, b, c, d))
+            .add_round_key(w, 10)
     }
 
-    /// A round of the equivalent inverse cipher, whose round key comes after InvMixColumns.
+    /// A round of the equivalent inverse cipher, whose round key comes after InvMixColumns. InvShiftRows takes the bytes from the
+    /// same columns in the other order.
     pub(crate) fn inv_round(self, dw: &[u32; 44], round: usize) -> Columns
         requires { round < 11 }
         ensures { state result ≡ add_round_key dw.now round (inv_mix_columns (inv_sub_bytes (inv_shift_rows (state self)))) }
     {
-        let Columns { c0, c1, c2, c3 } = self;
-        let mixed = Columns {
-            c0: steps::inv_round_column(c0, c3, c2, c1),
-            c1: steps::inv_round_column(c1, c0, c3, c2),
-            c2: steps::inv_round_column(c2, c1, c0, c3),
-            c3: steps::inv_round_column(c3, c2, c1, c0),
-        };
-        mixed.add_round_key(dw, round)
+        let table = tables::inv_round();
+        self.of_each(|a, b, c, d| steps::substitute_and_mix(table, a, d, c, b))
+            .add_round_key(dw, round)
     }
 
     pub(crate) fn inv_last_round(self, w: &[u32; 44]) -> Columns
         ensures { state result ≡ add_round_key w.now 0 (inv_sub_bytes (inv_shift_rows (state self))) }
     {
-        let Columns { c0, c1, c2, c3 } = self;
-        let shifted = Columns {
-            c0: steps::inv_substitute(c0, c3, c2, c1),
-            c1: steps::inv_substitute(c1, c0, c3, c2),
-            c2: steps::inv_substitute(c2, c1, c0, c3),
-            c3: steps::inv_substitute(c3, c2, c1, c0),
-        };
-        shifted.add_round_key(w, 0)
+        let table = tables::inv_substitution();
+        self.of_each(|a, b, c, d| steps::substitute(table, a, d, c, b))
+            .add_round_key(w, 0)
     }
 }

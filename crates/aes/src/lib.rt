@@ -24,6 +24,7 @@ mod tests;
 use columns::Columns;
 
 /// AES-128 with the key that it holds, at first 16 zeros.
+// Stays: ghost fields, and no model whose value is the key: `BlockCipher::fitting` is owed at every value, and not every list is a key.
 #[derive(Drop)]
 pub struct Aes128 {
     key: [u8; 16],
@@ -62,6 +63,7 @@ impl Aes128 {
         &self.key
     }
 
+    #[tactic(auto, unfolding(crate::specs::Aes::rounds, crate::specs::Aes::cipher, crate::specs::Aes::encipher), using(crate::proofs::Rounds::forth))]
     pub fn encipher(&self, block: u128) -> u128
         ensures { result ≡ encipher self.now.key block }
     {
@@ -72,6 +74,7 @@ impl Aes128 {
         columns.last_round(&self.w).block()
     }
 
+    #[tactic(auto, unfolding(crate::specs::Aes::inv_rounds, crate::specs::Aes::inv_cipher, crate::specs::Aes::decipher), using(crate::proofs::Rounds::back))]
     pub fn decipher(&self, block: u128) -> u128
         ensures { result ≡ decipher self.now.key block }
     {
@@ -84,11 +87,13 @@ impl Aes128 {
 }
 
 /// The substitution of a byte takes the inverse of every byte but 00, and its reverse undoes it.
+#[tactic(auto, using(crate::proofs::Boxes::substitution))]
 pub fn substitution_is_undone()
     ensures substitution { Substitution }
 {}
 
 /// For every key, each of the two maps undoes the other, and both keep blocks blocks.
+#[tactic(auto, using(crate::proofs::Blocks::undoing))]
 pub fn enciphering_is_undone()
     ensures undoing { Undoing }
 {}

@@ -1,7 +1,7 @@
 //! The key expansion, and the schedule of the way back.
 
 ghost use Rattle.std.specs.Prelude.{◌≡◌, ℕ, ◌+◌, ◌<◌};
-ghost use Rattle.aes.specs.Aes.{rcon, temp, key_word, key_expansion};
+ghost use Rattle.aes.specs.Aes.{rcon, temp, key_expansion};
 ghost use Rattle.aes.specs.Columns.{Unmixed};
 ghost use Rattle.aes.specs.Laws.{Tabulates};
 
@@ -19,34 +19,29 @@ fn round_constants() -> &'static [u32; 10]
     &RCON
 }
 
-fn key_word(key: &[u8; 16], i: usize) -> u32
-    requires { i < 4 }
-    ensures { result ≡ key_word key.now i }
-{
-    u32::from_be_bytes([key[4 * i], key[4 * i + 1], key[4 * i + 2], key[4 * i + 3]])
-}
-
 /// What the word before word i adds to word i - 4.
+#[tactic(auto, unfolding(crate::specs::Aes::temp), using(crate::proofs::Expansion::turned_left))]
 fn temp(i: usize, last: u32) -> u32
     requires { (3 < i) × (i < 44) }
     ensures { result ≡ temp i last }
 {
     if i % 4 == 0 {
-        let turned = last.rotate_left(8);
-        steps::substitute(turned, turned, turned, turned) ^ round_constants()[i / 4 - 1]
+        steps::sub_word(last.rotate_left(8)) ^ round_constants()[i / 4 - 1]
     } else {
         last
     }
 }
 
+#[tactic(auto, unfolding(crate::specs::Aes::word, crate::specs::Aes::expansion), using(crate::proofs::Chunks::word_at))]
 pub(crate) fn expand(key: &[u8; 16]) -> [u32; 44]
     ensures { result ≡ key_expansion key.now }
 {
+    let (words, _) = key.as_chunks::<4>();
     let mut w = [0; 44];
-    w[0] = key_word(key, 0);
-    w[1] = key_word(key, 1);
-    w[2] = key_word(key, 2);
-    w[3] = key_word(key, 3);
+    w[0] = u32::from_be_bytes(words[0]);
+    w[1] = u32::from_be_bytes(words[1]);
+    w[2] = u32::from_be_bytes(words[2]);
+    w[3] = u32::from_be_bytes(words[3]);
     for i in 4..44usize {
         w[i] = w[i - 4] ^ temp(i, w[i - 1]);
     }
@@ -56,9 +51,5 @@ pub(crate) fn expand(key: &[u8; 16]) -> [u32; 44]
 pub(crate) fn unmix(w: &[u32; 44]) -> [u32; 44]
     ensures { Unmixed w.now result }
 {
-    let mut dw = [0; 44];
-    for i in 0..44usize {
-        dw[i] = steps::inv_mix_column(w[i]);
-    }
-    dw
+    w.map(steps::inv_mix_column)
 }

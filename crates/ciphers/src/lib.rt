@@ -5,11 +5,13 @@
 
 #![tactic(auto)]
 
-ghost use Rattle.std.specs.Prelude.{◌≡◌, ℕ, true, List, replicate};
+ghost use Rattle.std.specs.Prelude.{◌≡◌, ℕ, true, List, Some, decimal, replicate};
 ghost use Rattle.ciphers.specs.Answers.{key_answer, key_fault_number};
 ghost use Rattle.ciphers.specs.Cipher.{CipherKind, fits, key_after};
 
 use rings::BlockRing;
+use std::error::Error;
+use std::fmt;
 
 pub mod mask;
 pub mod standard;
@@ -30,6 +32,17 @@ impl KeyFault {
         }
     }
 }
+
+/// The number of the refusal in decimal.
+impl fmt::Display for KeyFault {
+    ghost output = { λ fault. Some (decimal (key_fault_number fault)) };
+
+    fn fmt<W: fmt::Write>(&self, f: &mut fmt::Formatter<W>) -> fmt::Result {
+        fmt::Display::fmt(&self.number(), f)
+    }
+}
+
+impl Error for KeyFault {}
 
 /// A block cipher with the key that it holds.
 pub trait BlockCipher: Drop {

@@ -25,6 +25,7 @@ impl<R: BlockRing> BlockCipher for Mask<R> {
 
     ghost over = { Prim.search rules };
 
+    #[tactic(auto, using(rings::proofs::Rows::bytes_of_zero))]
     fn new() -> Mask<R> {
         Mask { key: R::zero() }
     }

@@ -1,6 +1,6 @@
 //! The published ciphers under the trait.
 
-ghost use Rattle.std.specs.Prelude.{◌≡◌, if◌then◌else◌, Some, None};
+ghost use Rattle.std.specs.Prelude.{◌≡◌, true, false, MatchResult};
 ghost use Rattle.ciphers.specs.Kinds.{aes128, xtea as xtea_kind};
 ghost use Rattle.rings.specs.Rows.{row};
 ghost use Rattle.rings.proofs.Rows.{row_array};
@@ -10,17 +10,14 @@ use crate::{BlockCipher, KeyFault};
 use aes::Aes128;
 use xtea::Xtea;
 
-/// A key of 16 bytes as an array.
-fn sixteen(key: &[u8]) -> Option<[u8; 16]>
-    ensures { result ≡ (if row 16 key.now then Some key.now else None) }
+/// The key as an array, if it has 16 bytes.
+fn sixteen(key: &[u8]) -> Result<&[u8; 16], KeyFault>
+    ensures { MatchResult result (λ k. (row 16 key.now ≡ true) × (k.now ≡ key.now)) (λ _. row 16 key.now ≡ false) }
 {
-    if key.len() != 16 {
-        return None;
-    }
-    let mut bytes = [0; 16];
-    bytes.copy_from_slice(key);
-    Some(bytes)
+    key.as_array().ok_or(KeyFault::WrongLength)
 }
+
+// Stays: the two impls differ only in the cipher that their lines name, and a trait over both would need the same lines once more.
 
 impl BlockCipher for Xtea {
     type Ring = u64;
@@ -42,10 +39,7 @@ impl BlockCipher for Xtea {
     }
 
     fn set_key(&mut self, key: &[u8]) -> Result<(), KeyFault> {
-        let Some(bytes) = sixteen(key) else {
-            return Err(KeyFault::WrongLength);
-        };
-        Xtea::set_key(self, &bytes);
+        Xtea::set_key(self, sixteen(key)?);
         Ok(())
     }
 
@@ -78,10 +72,7 @@ impl BlockCipher for Aes128 {
     }
 
     fn set_key(&mut self, key: &[u8]) -> Result<(), KeyFault> {
-        let Some(bytes) = sixteen(key) else {
-            return Err(KeyFault::WrongLength);
-        };
-        Aes128::set_key(self, &bytes);
+        Aes128::set_key(self, sixteen(key)?);
         Ok(())
     }
 

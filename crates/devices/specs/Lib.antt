@@ -1,4 +1,5 @@
 pub mod Numbers
+pub mod Texts
 pub mod Faults
 pub mod Device
 pub mod Rules

@@ -8,18 +8,10 @@ pub fn check(count: u32, size: u32, sector: u32, length: usize) -> Result<(), Fa
     ensures { result ≡ checked count size sector length }
 {
     if sector >= count {
-        return Err(Fault {
-            reason: Reason::NoSuchSector,
-            sector,
-            depth: 0,
-        });
+        return Err(Fault::new(Reason::NoSuchSector, sector));
     }
     if length != size as usize {
-        return Err(Fault {
-            reason: Reason::WrongLength,
-            sector,
-            depth: 0,
-        });
+        return Err(Fault::new(Reason::WrongLength, sector));
     }
     Ok(())
 }
@@ -28,8 +20,5 @@ pub fn check(count: u32, size: u32, sector: u32, length: usize) -> Result<(), Fa
 pub fn pass_up(answer: Result<(), Fault>) -> Result<(), Fault>
     ensures { result ≡ passed_up answer }
 {
-    match answer {
-        Ok(()) => Ok(()),
-        Err(fault) => Err(fault.passed_up()),
-    }
+    answer.map_err(Fault::passed_up)
 }

@@ -1,6 +1,8 @@
 ghost use Rattle.std.specs.Prelude.{◌≡◌, length};
 ghost use Rattle.devices.specs.Device.{DeviceMeaning, Sound, answer, after_read, after_write};
+ghost use Rattle.devices.specs.Faults.{checked};
 
+use crate::call::check;
 use crate::fault::Fault;
 
 /// A row of sectors of one size, which a program reads and writes one at a time.
@@ -32,4 +34,11 @@ pub trait SectorDevice {
     fn write(&mut self, sector: u32, buffer: &[u8]) -> Result<(), Fault>
         ensures call_is_answered { result ≡ answer (meaning self.old) sector (length buffer.now) }
         ensures sector_is_written { meaning self.new ≡ after_write (meaning self.old) sector buffer.now };
+
+    /// The checks of a call, for a device to make first: the sector's number, then the buffer's length.
+    fn admit(&self, sector: u32, len: usize) -> Result<(), Fault>
+        ensures { result ≡ checked (length (meaning self.now).sectors) (meaning self.now).size sector len }
+    {
+        check(self.count(), self.size(), sector, len)
+    }
 }

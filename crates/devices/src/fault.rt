@@ -1,6 +1,11 @@
-ghost use Rattle.std.specs.Prelude.{◌≡◌};
+ghost use Rattle.std.specs.Prelude.{◌≡◌, Some};
 ghost use Rattle.devices.specs.Numbers.{number_of};
-ghost use Rattle.devices.specs.Faults.{deeper};
+ghost use Rattle.devices.specs.Faults.{own, deeper};
+ghost use Rattle.devices.specs.Texts.{reason_text, fault_text};
+
+use std::error::Error;
+use std::fmt;
+use std::fmt::Display;
 
 /// Why a read or a write is refused.
 #[derive(Clone, Copy, PartialEq, Eq, Debug)]
@@ -31,6 +36,15 @@ impl Reason {
     }
 }
 
+/// Its number.
+impl Display for Reason {
+    ghost output = { λ reason. Some (reason_text reason) };
+
+    fn fmt<W: fmt::Write>(&self, f: &mut fmt::Formatter<W>) -> fmt::Result {
+        self.number().fmt(f)
+    }
+}
+
 /// A refusal: its reason and sector are those of the layer where it arose, and depth counts the
 /// layers that it has been passed up through, to 255.
 #[derive(Clone, Copy, PartialEq, Eq, Debug)]
@@ -41,14 +55,40 @@ pub struct Fault {
 }
 
 impl Fault {
+    /// A fault of the layer that was asked.
+    pub fn new(reason: Reason, sector: u32) -> Fault
+        ensures { result ≡ own reason sector }
+    {
+        Fault {
+            reason,
+            sector,
+            depth: 0,
+        }
+    }
+
     /// The same fault as the next layer up shows it.
     pub fn passed_up(self) -> Fault
         ensures { result ≡ deeper self }
     {
         Fault {
-            reason: self.reason,
-            sector: self.sector,
             depth: self.depth.saturating_add(1),
+            ..self
         }
     }
 }
+
+/// As `3, sector 5, depth 1`: the number of the reason first.
+impl Display for Fault {
+    ghost output = { λ fault. Some (fault_text fault) };
+
+    fn fmt<W: fmt::Write>(&self, f: &mut fmt::Formatter<W>) -> fmt::Result {
+        let Fault {
+            reason,
+            sector,
+            depth,
+        } = self;
+        write!(f, "{reason}, sector {sector}, depth {depth}")
+    }
+}
+
+impl Error for Fault {}

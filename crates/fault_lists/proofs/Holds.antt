@@ -1,10 +1,13 @@
 -- Which numbers a list holds.
-use Rattle.std.proofs.Common.{◌≡◌, ℕ, zero, suc, ◌<◌, ◌≤◌, Bool, true, false, eqb, List, [], ◌∷◌, ◌++◌, length, get_or, sym, refl, ◌∙◌, ⊎_elim, arith}
+use Rattle.std.proofs.Common.{◌≡◌, ℕ, zero, suc, ◌<◌, ◌≤◌, Bool, true, false, eqb, List, [], ◌∷◌, ◌++◌, length, get_or, Ok, Err, Result, sym, refl, ◌∙◌, subst, ⊎_elim, arith}
 use Rattle.std.specs.List.{IsAnyAnswer}
+use Rattle.std.specs.Result.{OnOk, OnErr}
+use Rattle.arrayvec.specs.ArrayVec.{ArrayVec}
 use Rattle.std.proofs.lemmas.List.Elements.{contains_decides}
 use Rattle.std.proofs.lemmas.List.{get_or_append_left, get_or_push, length_push, get_or_default}
 use Rattle.std.proofs.lemmas.Bool.{or_cases, or_left, or_right, eqb-true, eq-eqb, true≢false, cases_lt, cases_Bool}
-use Rattle.fault_lists.specs.Held.{is_held, Once}
+use Rattle.fault_lists.specs.Held.{is_held}
+use Rattle.fault_lists.specs.Once.{Once}
 use Rattle.std.proofs.lemmas.Bool.Decides.{Decides-eqb}
 
 pub held_at : (xs : List ℕ) (number k : ℕ) → k < length xs → get_or xs k 0 ≡ number → is_held xs number ≡ true
@@ -33,6 +36,11 @@ once_push xs number once new i j lt h e =
     let last : length xs ≡ j = omega arith in
     true≢false (sym (held_at xs number i (omega arith) (sym ei ∙ e ∙ get_or_push xs number 0 j last)) ∙ new))
     (cases_lt j (length xs))
+
+-- so it is after a push, whether it was accepted or not
+pub once_pushed : {E : Type 0} (r : Result (Unit {0}) E) (v w : ArrayVec ℕ) (number : ℕ) → Once v.items → is_held v.items number ≡ false → OnOk r (w.items ≡ v.items ++ number ∷ []) → OnErr r (w ≡ v) → Once w.items
+once_pushed (Ok u) v w number once new is stays = subst Once (sym is) (once_push v.items number once new)
+once_pushed (Err e) v w number once new is stays = subst (λ (x : ArrayVec ℕ). Once x.items) (sym stays) once
 
 -- what `contains` answers
 pub contained : (xs : List ℕ) (number : ℕ) (r : Bool) → IsAnyAnswer (λ y t. eqb y number ≡ t) xs r → r ≡ is_held xs number

@@ -1,4 +1,3 @@
 pub mod Holds
-pub mod Tables
 pub mod FaultLists
 mod Bounds

@@ -1,26 +1,23 @@
 -- The numbers that a fault list holds.
-use Rattle.std.specs.Prelude.{◌≡◌, ℕ, ◌<◌, ◌≤◌, Bool, false, cond, ◌||◌, List, [], ◌∷◌, ◌++◌, length, take, drop, Ok, Err, Result, ◌==◌, ◌≢◌, nat_lt, slice_index}
+use Rattle.std.specs.Prelude.{◌≡◌, ℕ, ◌<◌, ◌≤◌, Bool, false, cond, ◌||◌, List, [], ◌∷◌, ◌++◌, length, take, drop, Ok, Err, Result, ◌==◌, nat_lt}
 use Rattle.devices.specs.Faults.{Answer, own}
 use Rattle.devices.specs.declared.fault.Reason as reasons
 use Rattle.std.specs.List.Sorted.{IsPermutation}
+use Rattle.fault_lists.specs.Once.{Once}
 use Rattle.fault_lists.specs.declared.table.Table.{Table}
 use Rattle.fault_lists.specs.declared.refusal.EnterRefusal.{EnterRefusal}
 use Rattle.fault_lists.specs.declared.refusal.EnterRefusal.TheVariants.{NoSuchSector, ListFull}
 use Rattle.fault_lists.specs.declared.refusal.ListRefusal.{ListRefusal}
 use Rattle.fault_lists.specs.declared.refusal.ListRefusal.TheVariants.{TooFewPlaces}
 
--- the numbers in the first places of a table
+-- the numbers that a table holds
 abbrev pub held_by : Table → List ℕ
-held_by t = take t.count t.numbers
+held_by t = t.numbers.items
 
 -- whether a number is among those held
 unfoldable pub is_held : List ℕ → ℕ → Bool
 is_held [] number = false
 is_held (x ∷ xs) number = x == number || is_held xs number
-
--- no number stands at two places
-abbrev pub Once : List ℕ → Type 0
-Once xs = (i j : ℕ) → i < j → j < length xs → slice_index xs i ≢ slice_index xs j
 
 -- whether a list has no room for one more number
 abbrev pub full : List ℕ → Bool
@@ -67,5 +64,5 @@ list_answer held places = cond (nat_lt places 64) (Err TooFewPlaces) (Ok (length
 -- the places after the list call: first the numbers held, in any order, then what stood there
 pub record Listed (held before after : List ℕ) : Type 0 where
   pub numbers : IsPermutation held (take (length held) after)
-  pub once : Once held → Once (take (length held) after)
+  pub once : Once (take (length held) after)
   pub rest : drop (length held) after ≡ drop (length held) before

@@ -1,4 +1,5 @@
 pub mod Numbers
+pub mod Once
 pub mod Held
 pub mod FaultList
 pub mod Sounds

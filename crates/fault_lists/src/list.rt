@@ -6,7 +6,7 @@ ghost use Rattle.fault_lists.specs.Sounds.{sounds};
 
 use crate::refusal::{EnterRefusal, ListRefusal};
 use crate::table::Table;
-use devices::call::{check, pass_up};
+use devices::call::pass_up;
 use devices::device::SectorDevice;
 use devices::fault::Fault;
 
@@ -81,7 +81,7 @@ impl<D: SectorDevice> SectorDevice for FaultList<D> {
         ensures numbers_stay { held_by self.new.table ≡ held_by self.old.table }
         ensures device_below_stays { D.SectorDevice.meaning self.new.device ≡ D.SectorDevice.meaning self.old.device }
     {
-        check(self.count(), self.size(), sector, buffer.len())?;
+        self.admit(sector, buffer.len())?;
         self.table.check(sector)?;
         pass_up(self.device.read(sector, buffer))
     }
@@ -92,7 +92,7 @@ impl<D: SectorDevice> SectorDevice for FaultList<D> {
         ensures numbers_stay { held_by self.new.table ≡ held_by self.old.table }
         ensures device_below_is_written { D.SectorDevice.meaning self.new.device ≡ written_if (answer (fault_list_of (held_by self.old.table) (D.SectorDevice.meaning self.old.device)) sector (length buffer.now)) (D.SectorDevice.meaning self.old.device) sector buffer.now }
     {
-        check(self.count(), self.size(), sector, buffer.len())?;
+        self.admit(sector, buffer.len())?;
         self.table.check(sector)?;
         pass_up(self.device.write(sector, buffer))
     }

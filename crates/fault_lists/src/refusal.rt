@@ -1,5 +1,9 @@
-ghost use Rattle.std.specs.Prelude.{◌≡◌};
+ghost use Rattle.std.specs.Prelude.{◌≡◌, Some, decimal};
 ghost use Rattle.fault_lists.specs.Numbers.{enter_number, list_number};
+
+use std::error::Error;
+use std::fmt;
+use std::fmt::Display;
 
 /// Why a number is not entered into a fault list.
 #[derive(Clone, Copy, PartialEq, Eq, Debug)]
@@ -21,6 +25,17 @@ impl EnterRefusal {
     }
 }
 
+/// Its number.
+impl Display for EnterRefusal {
+    ghost output = { λ refusal. Some (decimal (enter_number refusal)) };
+
+    fn fmt<W: fmt::Write>(&self, f: &mut fmt::Formatter<W>) -> fmt::Result {
+        self.number().fmt(f)
+    }
+}
+
+impl Error for EnterRefusal {}
+
 /// Why the numbers of a fault list are not written out.
 #[derive(Clone, Copy, PartialEq, Eq, Debug)]
 pub enum ListRefusal {
@@ -37,3 +52,14 @@ impl ListRefusal {
         }
     }
 }
+
+/// Its number.
+impl Display for ListRefusal {
+    ghost output = { λ refusal. Some (decimal (list_number refusal)) };
+
+    fn fmt<W: fmt::Write>(&self, f: &mut fmt::Formatter<W>) -> fmt::Result {
+        self.number().fmt(f)
+    }
+}
+
+impl Error for ListRefusal {}

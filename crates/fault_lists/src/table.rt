@@ -1,40 +1,35 @@
 ghost use Rattle.std.specs.Prelude.{◌≡◌, ◌<◌, ◌≤◌, [], length};
-ghost use Rattle.fault_lists.specs.Held.{held_by, is_held, Listed, entered, table_answer, listed_check, list_answer};
+ghost use Rattle.fault_lists.specs.Once.{Once};
 
 use crate::refusal::{EnterRefusal, ListRefusal};
+use arrayvec::ArrayVec;
 use devices::fault::{Fault, Reason};
 
 /// How many numbers a list has room for.
 pub const ROOM: usize = 64;
 
-/// The numbers of a fault list, in the first places of a fixed array.
+/// The numbers of a fault list, none of them twice.
 #[derive(Drop)]
 pub struct Table {
-    numbers: [u32; 64],
-    count: usize,
+    numbers: ArrayVec<u32, ROOM>,
+    ghost once: { Once numbers.items },
 }
 
 impl Table {
+    ghost use Rattle.fault_lists.specs.Held.{held_by, is_held, Listed, entered, table_answer, listed_check, list_answer};
+
     pub fn new() -> Table
         ensures { held_by result ≡ [] }
     {
         Table {
-            numbers: [0; 64],
-            count: 0,
+            numbers: ArrayVec::new(),
         }
-    }
-
-    fn held(&self) -> &[u32]
-        ensures numbers_are_held { result.now ≡ held_by self.now }
-        ensures room_is_kept { length result.now ≤ 64 }
-    {
-        &self.numbers[0..self.count.min(ROOM)]
     }
 
     fn holds(&self, number: u32) -> bool
         ensures { result ≡ is_held (held_by self.now) number }
     {
-        self.held().contains(&number)
+        self.numbers.contains(&number)
     }
 
     /// Refuses a sector whose number is held.
@@ -42,11 +37,7 @@ impl Table {
         ensures { result ≡ listed_check (held_by self.now) sector }
     {
         if self.holds(sector) {
-            return Err(Fault {
-                reason: Reason::Listed,
-                sector,
-                depth: 0,
-            });
+            return Err(Fault::new(Reason::Listed, sector));
         }
         Ok(())
     }
@@ -58,12 +49,9 @@ impl Table {
         if self.holds(number) {
             return Ok(());
         }
-        if self.count >= ROOM {
-            return Err(EnterRefusal::ListFull);
-        }
-        self.numbers[self.count] = number;
-        self.count += 1;
-        Ok(())
+        self.numbers
+            .try_push(number)
+            .map_err(|_| EnterRefusal::ListFull)
     }
 
     pub fn list(&self, places: &mut [u32]) -> Result<usize, ListRefusal>
@@ -74,8 +62,8 @@ impl Table {
         if places.len() < ROOM {
             return Err(ListRefusal::TooFewPlaces);
         }
-        let held = self.held();
-        places[0..held.len()].copy_from_slice(held);
+        let held = self.numbers.as_slice();
+        places[..held.len()].copy_from_slice(held);
         Ok(held.len())
     }
 }

@@ -1,38 +1,16 @@
--- Ψ, the cipher and the inverse of Ψ, one after another on a buffer.
-use Rattle.std.proofs.Common.{◌≡◌, ℕ, ◌/◌, ◌%◌, ◌<◌, true, List, length, sym, ap, ◌∙◌, subst, ap₂, mod-eq_of_lt}
-use Rattle.std.specs.Int.Digits.{number_from_digits, AllBelowBase}
+-- A sector enciphered, and deciphered, as the maps of bytes.
+use Rattle.std.proofs.Common.{◌≡◌, ℕ, ◌%◌, ◌<◌, true, List, length, get_or, sym, ◌∙◌, subst, mod-eq_of_lt}
+use Rattle.std.specs.Int.Digits.{number_from_digits}
 use Rattle.std.proofs.lemmas.Bool.{cond-true}
 use Rattle.rings.specs.Ring.{RingKind, size}
 use Rattle.rings.specs.Rows.{row}
 use Rattle.rings.proofs.Bytes.{pow_bytes}
-use Rattle.rings.proofs.Rows.{row_block, number_bytes_of}
+use Rattle.rings.proofs.Rows.{row_array, row_block, number_bytes_of}
 use Rattle.rings.proofs.Total.{rest_below}
-use Rattle.ciphers.specs.Cipher.{CipherKind}
-use Rattle.passes.specs.Passes.{mapped}
-use Rattle.passes.specs.Sector.{Sector, parted, rowwise}
-use Rattle.passes.proofs.Parts.{parted_sound, stage, tail_short}
-use Rattle.passes.proofs.Stages.{mapped_sound}
-use Rattle.heh_theory.specs.Heh.{psi, psi_back, wrapped, on_blocks, enciphered, deciphered, taken, encipher, decipher, sector_tweak}
-use Rattle.heh_theory.proofs.Inverse.{on_blocks_sound, psi_sound}
-use Rattle.heh_theory.proofs.Undoing.{Size, Taken, blocks_some, taken_from}
-
-module _ (r : RingKind) (f : ℕ → ℕ) (low : (x : ℕ) → x < size r → f x < size r) (τ β β' : ℕ) (block : β < size r) where
-  pub wrapped_steps : (bs one two three : List ℕ) → AllBelowBase 256 bs → Size r (length bs)
-      → one ≡ rowwise r.width (on_blocks (psi r τ β)) bs
-      → two ≡ rowwise r.width (mapped f) one
-      → three ≡ rowwise r.width (on_blocks (psi_back r τ β')) two
-      → three ≡ rowwise r.width (on_blocks (wrapped r f τ β β')) bs
-  wrapped_steps bs one two three under fit is1 is2 is3 =
-      let w : ℕ = r.width in
-      let m : ℕ = length bs / r.width in
-      let t : ℕ = length bs % r.width in
-      let short = tail_short r (length bs) in
-      let s1 : Sector = on_blocks (psi r τ β) (parted w bs) in
-      let o1 = on_blocks_sound r m t (psi r τ β) (psi_sound r τ β m block (blocks_some r (length bs) fit)) (parted w bs) (parted_sound r bs under) in
-      let e2 = is2 ∙ stage r m t short one s1 (mapped f) is1 o1 in
-      is3 ∙ stage r m t short two (mapped f s1) (on_blocks (psi_back r τ β')) e2 (mapped_sound r m t f low s1 o1)
-
--- ---- as the maps of bytes
+use Rattle.ciphers.specs.Cipher.{CipherKind, fits}
+use Rattle.passes.specs.Sector.{rowwise}
+use Rattle.heh_theory.specs.Heh.{size_fits, on_blocks, enciphered, deciphered, taken, encipher, decipher, sector_tweak}
+use Rattle.heh_theory.proofs.Undoing.{taken_from}
 
 -- the block of a tweak of bytes, and of a sector's
 pub tweak_block : (r : RingKind) (tweak : List ℕ) → row r.width tweak ≡ true → number_from_digits 256 tweak % size r ≡ number_from_digits 256 tweak
@@ -41,15 +19,19 @@ tweak_block r tweak good = mod-eq_of_lt (row_block r.width tweak good)
 pub sector_block : (r : RingKind) (s : ℕ) → s % size r ≡ number_from_digits 256 (sector_tweak r s)
 sector_block r s = sym (number_bytes_of r.width (s % size r) (subst (λ (n : ℕ). s % size r < n) (sym (pow_bytes r.width)) (rest_below r s)))
 
-module _ (k : CipherKind) (key : List ℕ) (ℓ : ℕ) (tweak bs : List ℕ) (r : RingKind) (over : k.ring ≡ r) (fit : Taken k key ℓ tweak bs) (T n : ℕ) (T-is : T ≡ number_from_digits 256 tweak) (n_is : n ≡ ℓ) where
-  pub encipher_is : rowwise r.width (on_blocks (enciphered r (k.encipher key) T n)) bs ≡ encipher k key ℓ tweak bs
-  encipher_is =
-      ap₂ (λ (T n : ℕ). rowwise r.width (on_blocks (enciphered r (k.encipher key) T n)) bs) T-is n_is
-      ∙ ap (λ (r : RingKind). rowwise r.width (on_blocks (enciphered r (k.encipher key) (number_from_digits 256 tweak) ℓ)) bs) (sym over)
-      ∙ sym (cond-true (taken k key ℓ tweak bs) _ bs (taken_from k key ℓ tweak bs fit))
+-- a key and a size that fit, a tweak of one block, a sector of that size, and the tweak's block T
+module _ (k : CipherKind) (key : List ℕ) (ℓ : ℕ) (tweak bs : List ℕ) (r : RingKind) (over : k.ring ≡ r) (T : ℕ)
+    (good : fits k key ≡ true) (fit : size_fits k.ring ℓ ≡ true) (block : row k.ring.width tweak ≡ true) (long : length bs ≡ ℓ) (low : (i : ℕ) → get_or bs i 0 < 256)
+    (T-is : T ≡ number_from_digits 256 tweak) where
+  all_taken : taken k key ℓ tweak bs ≡ true
+  all_taken = taken_from k key ℓ tweak bs (record { key_fit = good; size_fit = fit; tweak_row = block; bytes_row = row_array ℓ bs long low })
 
-  pub decipher_is : rowwise r.width (on_blocks (deciphered r (k.encipher key) (k.decipher key) T n)) bs ≡ decipher k key ℓ tweak bs
+  pub encipher_is : rowwise r.width (on_blocks (enciphered r (k.encipher key) T (length bs))) bs ≡ encipher k key ℓ tweak bs
+  encipher_is =
+      (λ t. rowwise (sym over t).width (on_blocks (enciphered (sym over t) (k.encipher key) (T-is t) (long t))) bs)
+      ∙ sym (cond-true (taken k key ℓ tweak bs) _ bs all_taken)
+
+  pub decipher_is : rowwise r.width (on_blocks (deciphered r (k.encipher key) (k.decipher key) T (length bs))) bs ≡ decipher k key ℓ tweak bs
   decipher_is =
-      ap₂ (λ (T n : ℕ). rowwise r.width (on_blocks (deciphered r (k.encipher key) (k.decipher key) T n)) bs) T-is n_is
-      ∙ ap (λ (r : RingKind). rowwise r.width (on_blocks (deciphered r (k.encipher key) (k.decipher key) (number_from_digits 256 tweak) ℓ)) bs) (sym over)
-      ∙ sym (cond-true (taken k key ℓ tweak bs) _ bs (taken_from k key ℓ tweak bs fit))
+      (λ t. rowwise (sym over t).width (on_blocks (deciphered (sym over t) (k.encipher key) (k.decipher key) (T-is t) (long t))) bs)
+      ∙ sym (cond-true (taken k key ℓ tweak bs) _ bs all_taken)

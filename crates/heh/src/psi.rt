@@ -1,8 +1,9 @@
-//! Ψ and its inverse, in place.
+//! Ψ and its inverse, in place, on a sector that is cut before its last block.
 
-ghost use Rattle.std.specs.Prelude.{◌≡◌, true, length};
+ghost use Rattle.std.specs.Prelude.{◌≡◌};
 ghost use Rattle.passes.specs.Sector.{rowwise};
-ghost use Rattle.heh_theory.specs.Heh.{offset, on_blocks, psi, psi_back, size_fits};
+ghost use Rattle.heh_theory.specs.Heh.{offset, on_blocks};
+ghost use Rattle.heh.specs.Halves.{Halves, psi, psi_back};
 
 use passes::blocks::{add_to_each, whiten};
 use rings::BlockRing;
@@ -17,24 +18,19 @@ fn add_offsets<R: BlockRing>(y: R, beta: R, blocks: &mut [u8])
 }
 
 /// Y = X_m + H(τ; X_1..X_(m-1)); Z_i = X_i + Y + α^i·β for i < m, and Z_m = Y + β.
-pub(crate) fn forward<R: BlockRing>(tau: R, beta: R, sector: &mut [u8])
-    requires { size_fits R.ring (length sector.old) ≡ true }
-    ensures { sector.new ≡ rowwise R.ring.width (on_blocks (psi R.ring (R.value tau) (R.value beta))) sector.old }
+pub(crate) fn forward<R: BlockRing>(tau: R, beta: R, front: &mut [u8], last: &mut [u8])
+    ensures { record { front = front.new; last = last.new } ≡ psi R.ring (R.value tau) (R.value beta) (record { front = front.old; last = last.old }) }
 {
-    let end = sector.len() - R::width();
-    let y = R::from_bytes(&sector[end..]).add(hash_sum(tau, &sector[..end]));
-    add_offsets(y, beta, &mut sector[..end]);
-    y.add(beta).to_bytes(&mut sector[end..]);
+    let y = R::from_bytes(last).add(hash_sum(tau, front));
+    add_offsets(y, beta, front);
+    y.add(beta).to_bytes(last);
 }
 
 /// Y = Z_m + β; X_i = Z_i + Y + α^i·β for i < m, and X_m = Y + H(τ; X_1..X_(m-1)).
-pub(crate) fn back<R: BlockRing>(tau: R, beta: R, sector: &mut [u8])
-    requires { size_fits R.ring (length sector.old) ≡ true }
-    ensures { sector.new ≡ rowwise R.ring.width (on_blocks (psi_back R.ring (R.value tau) (R.value beta))) sector.old }
+pub(crate) fn back<R: BlockRing>(tau: R, beta: R, front: &mut [u8], last: &mut [u8])
+    ensures { record { front = front.new; last = last.new } ≡ psi_back R.ring (R.value tau) (R.value beta) (record { front = front.old; last = last.old }) }
 {
-    let end = sector.len() - R::width();
-    let y = R::from_bytes(&sector[end..]).add(beta);
-    add_offsets(y, beta, &mut sector[..end]);
-    y.add(hash_sum(tau, &sector[..end]))
-        .to_bytes(&mut sector[end..]);
+    let y = R::from_bytes(last).add(beta);
+    add_offsets(y, beta, front);
+    y.add(hash_sum(tau, front)).to_bytes(last);
 }

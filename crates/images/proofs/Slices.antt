@@ -1,15 +1,21 @@
 -- What a read and a write of an image come to.
-use Rattle.std.proofs.Common.{◌≡◌, ℕ, ◌+◌, ◌-◌, ◌*◌, ◌/◌, ◌<◌, ◌≤◌, min, List, ◌++◌, length, take, drop, Ok, sym, ap, ◌∙◌, ⊎_elim, append_assoc, mul-le-mul_right, suc-mul, arith}
+use Rattle.std.proofs.Common.{◌≡◌, ℕ, ◌+◌, ◌-◌, ◌*◌, ◌/◌, ◌<◌, ◌≤◌, min, List, ◌++◌, length, take, drop, Ok, Err, Result, sym, ap, ◌∙◌, ⊎_elim, append_assoc, mul-le-mul_right, suc-mul, arith}
 use borrow.Rule.Slice.PartMut.{put_mid}
 use Rattle.std.proofs.lemmas.List.{drop-take, drop-drop}
 use Rattle.std.proofs.lemmas.Slice.{take-put_mid_below, drop-put_mid, between-put_mid}
-use Rattle.std.proofs.lemmas.Bool.{cases_order}
+use Rattle.std.proofs.lemmas.Bool.{cases_order, cases_lt}
+use Rattle.std.specs.Result.{OkIff, result_unwrap_or}
 use Rattle.devices.specs.Faults.{Answer, checked, by_answer}
 use Rattle.devices.specs.Device.{live, sector_at, standing, bytes_of, answer, after_read, after_write, device_of}
 use Rattle.devices.proofs.Answers.{allows, stands, read_accepted, write_accepted}
 use Rattle.devices.proofs.Sectors.{sectors_counted, sector_of, written_of}
 use Rattle.images.specs.Image.{count_of, slice, cut, placed}
 use Rattle.images.specs.Sounds.{inside}
+
+-- a number cut at the greatest of 32 bits
+pub capped : {E : Type 0} (r : Result ℕ E) (n : ℕ) → OkIff r (n < 4294967296) n → result_unwrap_or r 4294967295 ≡ min n 4294967295
+capped (Ok m) n h = omega (arith, h.0, h.1)
+capped (Err e) n h = ⊎_elim (λ (lt : n < 4294967296). absurd (h lt)) (λ (le : 4294967296 ≤ n). omega arith) (cases_lt n 4294967296)
 
 module _ (size : ℕ) (bytes : List ℕ) where
   pub count_is : length (cut size bytes).sectors ≡ count_of size bytes

@@ -1,12 +1,11 @@
 #![tactic(auto)]
 
-ghost use Rattle.std.specs.Prelude.{◌≡◌, ◌+◌, ◌≤◌, length, take, drop};
+ghost use Rattle.std.specs.Prelude.{◌≡◌, ◌+◌, ◌*◌, ◌≤◌, length, take, drop};
 ghost use borrow.Rule.Slice.PartMut.{put_mid};
 ghost use Rattle.devices.specs.Device.{answer, after_read, after_write};
 ghost use Rattle.images.specs.Image.{size_of, image_of, stored_of};
 ghost use Rattle.images.specs.Sounds.{sounds};
 
-use devices::call::check;
 use devices::device::SectorDevice;
 use devices::fault::Fault;
 
@@ -39,7 +38,14 @@ impl<'a> Image<'a> {
     fn sector_size(&self) -> u32
         ensures { result ≡ size_of self.now.wanted }
     {
-        self.wanted.min(4096).max(1)
+        self.wanted.clamp(1, 4096)
+    }
+
+    /// Where a sector's bytes begin.
+    fn start(&self, sector: u32) -> usize
+        ensures { result ≡ sector * size_of self.now.wanted }
+    {
+        sector as usize * self.sector_size() as usize
     }
 
     /// Copies the bytes from `start` on into the buffer.
@@ -75,7 +81,7 @@ impl<'a> SectorDevice for Image<'a> {
 
     fn count(&self) -> u32 {
         let size = self.sector_size() as usize;
-        (self.bytes.len() / size).min(4294967295) as u32
+        u32::try_from(self.bytes.len() / size).unwrap_or(u32::MAX)
     }
 
     fn read(&mut self, sector: u32, buffer: &mut [u8]) -> Result<(), Fault>
@@ -86,11 +92,8 @@ impl<'a> SectorDevice for Image<'a> {
         ensures size_stays { self.new.wanted ≡ self.old.wanted }
         ensures same_loan { self.new.bytes.ghost_name ≡ self.old.bytes.ghost_name }
     {
-        let count = self.count();
-        let size = self.sector_size();
-        check(count, size, sector, buffer.len())?;
-        let start = sector as usize * size as usize;
-        self.copy_out(start, buffer);
+        self.admit(sector, buffer.len())?;
+        self.copy_out(self.start(sector), buffer);
         Ok(())
     }
 
@@ -101,11 +104,8 @@ impl<'a> SectorDevice for Image<'a> {
         ensures size_stays { self.new.wanted ≡ self.old.wanted }
         ensures same_loan { self.new.bytes.ghost_name ≡ self.old.bytes.ghost_name }
     {
-        let count = self.count();
-        let size = self.sector_size();
-        check(count, size, sector, buffer.len())?;
-        let start = sector as usize * size as usize;
-        self.copy_in(start, buffer);
+        self.admit(sector, buffer.len())?;
+        self.copy_in(self.start(sector), buffer);
         Ok(())
     }
 }

@@ -1,6 +1,6 @@
 -- The way back gives the sector again.
 use Rattle.std.proofs.Common.{◌≡◌, ℕ, ◌+◌, ◌≤◌, Bool, true, false, cond, eqb, leb, List, [], length, Some, None, Ok, Err, Option, Result, sym, refl, ap, ◌∙◌, arith, length-append}
-use Rattle.std.proofs.lemmas.Bool.{cond-true, and_from, and_parts, eq-eqb, eqb-true, leb-true}
+use Rattle.std.proofs.lemmas.Bool.{and_from, and_parts, eq-eqb, eqb-true, leb-true}
 use Rattle.rings.specs.Rows.{all_bytes, row}
 use Rattle.modes.specs.declared.ModeFault.{ModeFault}
 use Rattle.modes.specs.declared.ModeFault.TheVariants.{WrongTweak}
@@ -36,11 +36,7 @@ module _ (k : TweakKind) (d : Direction) (key : List ℕ) (n : ℕ) (tweak bs : 
 -- what a task gives where nothing refuses it
 given_of : (k : TweakKind) (t : Task) (n : ℕ) (out : List ℕ) → length t.sector ≡ n → k.refusal t.key n ≡ None → k.tweak_fits t.tweak ≡ true →
     map_of k t.direction t.key n t.tweak t.sector ≡ out → given k t ≡ Ok out
-given_of k t n out long free fits is =
-    ap (λ (m : ℕ). refused_or (k.refusal t.key m) (cond (k.tweak_fits t.tweak) (Ok (map_of k t.direction t.key m t.tweak t.sector)) (Err WrongTweak))) long
-    ∙ ap (λ (o : Option ModeFault). refused_or o (cond (k.tweak_fits t.tweak) (Ok (map_of k t.direction t.key n t.tweak t.sector)) (Err WrongTweak))) free
-    ∙ cond-true (k.tweak_fits t.tweak) _ _ fits
-    ∙ ap (λ (s : List ℕ). Ok s) is
+given_of k t n out long free fits is = rw (long, free, fits, is)
 
 module _ (k : TweakKind) (t : Task) (sector : List ℕ) (bytes : all_bytes t.sector ≡ true) (e : given k t ≡ Ok sector) where
   parts : Gives (k.refusal t.key (length t.sector)) (k.tweak_fits t.tweak) (map_of k t.direction t.key (length t.sector) t.tweak t.sector) sector

@@ -1,5 +1,6 @@
 -- What a job gives.
-use Rattle.std.specs.Prelude.{◌≡◌, ℕ, cond, List, length, take, Some, None, Ok, Err, Option, Result}
+use Rattle.std.specs.Prelude.{ℕ, cond, List, length, Some, None, Ok, Err, Option, Result}
+use Rattle.arrayvec.specs.ArrayVec.{ArrayVec}
 use Rattle.modes.specs.declared.ModeFault.{ModeFault}
 use Rattle.modes.specs.declared.ModeFault.TheVariants.{WrongTweak}
 use Rattle.records.specs.declared.Direction.{Direction}
@@ -41,14 +42,7 @@ of_task (Some t) = carried (given (mode_over t.mode (cipher_of t.cipher)) t)
 abbrev pub outcome : List ℕ → Result (List ℕ) Refusal
 outcome bytes = of_task (read bytes)
 
--- ---- a sector in the front of a buffer
-
--- the length of the sector, or why there is none
-abbrev pub length_of : {E : Type 0} → Result (List ℕ) E → Result ℕ E
-length_of (Ok sector) = Ok (length sector)
-length_of (Err fault) = Err fault
-
--- the buffer begins with the sector
-abbrev pub Front : {E : Type 0} → Result (List ℕ) E → List ℕ → Type 0
-Front (Ok sector) buffer = take (length sector) buffer ≡ sector
-Front (Err fault) buffer = Unit {0}
+-- the sector that a fixed vector holds, or why there is none
+abbrev pub sector_in : {E : Type 0} → Result (ArrayVec ℕ) E → Result (List ℕ) E
+sector_in (Ok v) = Ok v.items
+sector_in (Err fault) = Err fault

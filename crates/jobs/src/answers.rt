@@ -1,32 +1,36 @@
 //! Answers, written to the front of a place.
 
-ghost use Rattle.std.specs.Prelude.{◌≡◌, ◌+◌, ◌≤◌, length, Ok as OkOf, Err as ErrOf};
+ghost use Rattle.std.specs.Prelude.{◌≡◌, ◌≤◌, length};
 ghost use Rattle.jobs.specs.Answers.{answer_of, written};
+ghost use Rattle.jobs.specs.Outcome.{sector_in};
 
 use crate::refusal::Refusal;
+use crate::{LEAST_PLACE, Sector};
 
-/// 02, the length in two bytes, the first the higher, and the sector.
-pub(crate) fn write_sector(sector: &[u8], place: &mut [u8]) -> usize
-    requires short { length sector.now ≤ 4096 }
-    requires room { 4099 ≤ length place.old }
-    ensures count { result ≡ length (answer_of (OkOf sector.now)) }
-    ensures place { place.new ≡ written (answer_of (OkOf sector.now)) place.old }
-{
-    let size = sector.len();
-    place[0] = 2;
-    place[1] = (size / 256) as u8;
-    place[2] = (size % 256) as u8;
-    place[3..3 + size].copy_from_slice(sector);
-    3 + size
-}
+/// The mark of a refusal.
+const REFUSAL: u8 = 1;
 
-/// 01 and the number of a refusal.
-pub(crate) fn write_refusal(refusal: Refusal, place: &mut [u8]) -> usize
-    requires { 4099 ≤ length place.old }
-    ensures count { result ≡ length (answer_of (ErrOf refusal)) }
-    ensures place { place.new ≡ written (answer_of (ErrOf refusal)) place.old }
+/// The mark of a sector.
+const SECTOR: u8 = 2;
+
+/// Writes an answer, and tells its length: a mark, the sector's length in two bytes, the first the higher, and the sector;
+/// or a mark and the number of a refusal.
+pub(crate) fn write_answer(outcome: Result<Sector, Refusal>, place: &mut [u8; LEAST_PLACE]) -> usize
+    ensures count { result ≡ length (answer_of (sector_in outcome)) }
+    ensures fits { result ≤ LEAST_PLACE }
+    ensures place { place.new ≡ written (answer_of (sector_in outcome)) place.old }
 {
-    place[0] = 1;
-    place[1] = refusal.number();
-    2
+    match outcome {
+        Ok(sector) => {
+            let size = sector.len();
+            let [high, low] = (size as u16).to_be_bytes();
+            place[..3].copy_from_slice(&[SECTOR, high, low]);
+            place[3..3 + size].copy_from_slice(&sector);
+            3 + size
+        }
+        Err(refusal) => {
+            place[..2].copy_from_slice(&[REFUSAL, refusal.number()]);
+            2
+        }
+    }
 }

@@ -7,18 +7,16 @@
 #![tactic(auto)]
 
 ghost use Rattle.std.specs.Prelude.{◌≡◌, ◌≤◌, length, IfOk};
-ghost use Rattle.modes.specs.Faults.{answered};
-ghost use Rattle.modes.specs.Mode.{ciphered};
 ghost use Rattle.records.specs.Views.{task_of};
 ghost use Rattle.jobs.specs.Answers.{count, place_after};
 ghost use Rattle.jobs.specs.Names.{cipher_of, mode_over};
 ghost use Rattle.jobs.specs.Laws.{Returning};
-ghost use Rattle.jobs.specs.Outcome.{map_of, given, outcome, length_of, Front};
-ghost use Rattle.tweak_modes.specs.Tweaked.{obstacle_of};
+ghost use Rattle.jobs.specs.Outcome.{given, outcome as outcome_of, sector_in};
 
-use crate::answers::{write_refusal, write_sector};
+use crate::answers::write_answer;
 use crate::refusal::{PlaceFault, Refusal};
 use aes::Aes128;
+use arrayvec::ArrayVec;
 use ciphers::BlockCipher;
 use ciphers::mask::Mask;
 use heh::Heh;
@@ -37,73 +35,53 @@ const LONGEST_SECTOR: usize = 4096;
 /// The least place for an answer, in bytes.
 const LEAST_PLACE: usize = 4099;
 
-/// Ciphers a sector in place with a mode that holds a key, in the direction asked for.
-fn turn<M: TweakMode>(
-    mode: &M,
-    direction: Direction,
-    tweak: &[u8],
-    sector: &mut [u8],
-) -> Result<(), ModeFault>
-    ensures answer { result ≡ answered (obstacle_of M.kind (M.state mode.now) tweak.now sector.old) }
-    ensures sector { sector.new ≡ ciphered (λ key size. map_of M.kind direction key size tweak.now) (M.state mode.now) (obstacle_of M.kind (M.state mode.now) tweak.now sector.old) sector.old }
-{
-    match direction {
-        Direction::Encipher => mode.encipher_with_tweak(tweak, sector),
-        Direction::Decipher => mode.decipher_with_tweak(tweak, sector),
-    }
-}
+/// A sector of a job.
+type Sector = ArrayVec<u8, LONGEST_SECTOR>;
 
-/// Ciphers the sector of a job with a mode, in the front of a buffer, and tells its length.
-fn cipher<M: TweakMode>(job: &Job<'_>, buffer: &mut [u8]) -> Result<usize, ModeFault>
-    requires { 4096 ≤ length buffer.old }
-    ensures length { result ≡ length_of (given M.kind (task_of job.now)) }
-    ensures sector { Front (given M.kind (task_of job.now)) buffer.new }
+/// The sector that a job gives with a mode.
+fn cipher<M: TweakMode>(job: &Job<'_>) -> Result<Sector, ModeFault>
+    ensures { sector_in result ≡ given M.kind (task_of job.now) }
 {
-    let size = job.sector.len();
     let mut mode = M::blank();
-    mode.key(job.key, size)?;
-    let sector = &mut buffer[0..size];
-    sector.copy_from_slice(job.sector);
-    turn(&mode, job.direction, job.tweak, sector)?;
-    Ok(size)
+    mode.key(job.key, job.sector.len())?;
+    // The mode took the length, so the sector fits.
+    let mut sector = Sector::try_from(job.sector).unwrap();
+    match job.direction {
+        Direction::Encipher => mode.encipher_with_tweak(job.tweak, &mut sector)?,
+        Direction::Decipher => mode.decipher_with_tweak(job.tweak, &mut sector)?,
+    }
+    Ok(sector)
 }
 
 /// The same with the mode that the job names, over a cipher.
-fn cipher_over<C: BlockCipher>(job: &Job<'_>, buffer: &mut [u8]) -> Result<usize, ModeFault>
-    requires { 4096 ≤ length buffer.old }
-    ensures length { result ≡ length_of (given (mode_over job.now.mode C.BlockCipher.kind) (task_of job.now)) }
-    ensures sector { Front (given (mode_over job.now.mode C.BlockCipher.kind) (task_of job.now)) buffer.new }
+fn cipher_over<C: BlockCipher>(job: &Job<'_>) -> Result<Sector, ModeFault>
+    ensures { sector_in result ≡ given (mode_over job.now.mode C.BlockCipher.kind) (task_of job.now) }
 {
     match job.mode {
-        Mode::Tet => cipher::<Tet<C>>(job, buffer),
-        Mode::Heh => cipher::<Heh<C>>(job, buffer),
+        Mode::Tet => cipher::<Tet<C>>(job),
+        Mode::Heh => cipher::<Heh<C>>(job),
     }
 }
 
 /// The same with the cipher that the job names.
-fn perform(job: &Job<'_>, buffer: &mut [u8]) -> Result<usize, ModeFault>
-    requires { 4096 ≤ length buffer.old }
-    ensures length { result ≡ length_of (given (mode_over job.now.mode (cipher_of job.now.cipher)) (task_of job.now)) }
-    ensures sector { Front (given (mode_over job.now.mode (cipher_of job.now.cipher)) (task_of job.now)) buffer.new }
+fn perform(job: &Job<'_>) -> Result<Sector, ModeFault>
+    ensures { sector_in result ≡ given (mode_over job.now.mode (cipher_of job.now.cipher)) (task_of job.now) }
 {
     match job.cipher {
-        Cipher::Aes128 => cipher_over::<Aes128>(job, buffer),
-        Cipher::Xtea => cipher_over::<Xtea>(job, buffer),
-        Cipher::Mask1 => cipher_over::<Mask<u8>>(job, buffer),
-        Cipher::Mask8 => cipher_over::<Mask<u64>>(job, buffer),
-        Cipher::Mask16 => cipher_over::<Mask<u128>>(job, buffer),
+        Cipher::Aes128 => cipher_over::<Aes128>(job),
+        Cipher::Xtea => cipher_over::<Xtea>(job),
+        Cipher::Mask1 => cipher_over::<Mask<u8>>(job),
+        Cipher::Mask8 => cipher_over::<Mask<u64>>(job),
+        Cipher::Mask16 => cipher_over::<Mask<u128>>(job),
     }
 }
 
-/// Works a record: the sector that it gives, in the front of a buffer, and its length.
-fn work_in(record: &[u8], buffer: &mut [u8]) -> Result<usize, Refusal>
-    requires { 4096 ≤ length buffer.old }
-    ensures length { result ≡ length_of (outcome «record».now) }
-    ensures sector { Front (outcome «record».now) buffer.new }
+/// The sector that a record gives.
+fn outcome(record: &[u8]) -> Result<Sector, Refusal>
+    ensures { sector_in result ≡ outcome_of «record».now }
 {
     let job = records::read(record)?;
-    let size = perform(&job, buffer)?;
-    Ok(size)
+    Ok(perform(&job)?)
 }
 
 /// Works a record and writes its answer to the front of a place: the sector, or the number of a refusal. Tells how many
@@ -113,14 +91,10 @@ pub fn work(record: &[u8], place: &mut [u8]) -> Result<usize, PlaceFault>
     ensures answer_is_written { place.new ≡ place_after «record».now place.old }
     ensures answer_fits { IfOk result (λ n. n ≤ length place.new) }
 {
-    if place.len() < LEAST_PLACE {
+    let Some(front) = place.first_chunk_mut::<LEAST_PLACE>() else {
         return Err(PlaceFault::Short);
-    }
-    let mut buffer = [0; LONGEST_SECTOR];
-    match work_in(record, &mut buffer) {
-        Ok(size) => Ok(write_sector(&buffer[0..size], place)),
-        Err(refusal) => Ok(write_refusal(refusal, place)),
-    }
+    };
+    Ok(write_answer(outcome(record), front))
 }
 
 /// Whatever the job: where its record gives a sector, a record of the other direction, with that sector, gives back the job's

@@ -1,11 +1,13 @@
 //! Why a job is refused.
 
-ghost use Rattle.std.specs.Prelude.{◌≡◌};
+ghost use Rattle.std.specs.Prelude.{◌≡◌, Some, decimal};
 ghost use Rattle.jobs.specs.Answers.{refusal_number, place_fault_number};
 ghost use Rattle.jobs.specs.declared.refusal.Refusal.TheVariants.{Record as RecordOf, Mode as ModeOf};
 
 use modes::ModeFault;
 use records::RecordFault;
+use std::error::Error;
+use std::fmt;
 
 /// Why a job is refused: an answer with its number is written.
 #[derive(Clone, Copy, PartialEq, Debug)]
@@ -28,6 +30,20 @@ impl Refusal {
     }
 }
 
+/// Prints the number of the refusal.
+impl fmt::Display for Refusal {
+    ghost output = { λ refusal. Some (decimal (refusal_number refusal)) };
+
+    fn fmt<W: fmt::Write>(&self, f: &mut fmt::Formatter<W>) -> fmt::Result {
+        match self {
+            Refusal::Record(fault) => write!(f, "{fault}"),
+            Refusal::Mode(fault) => write!(f, "{}", fault.number()),
+        }
+    }
+}
+
+impl Error for Refusal {}
+
 impl From<RecordFault> for Refusal {
     ghost from_gives = { λ x y. y ≡ RecordOf x };
 
@@ -45,7 +61,7 @@ impl From<ModeFault> for Refusal {
 }
 
 /// Why the call is refused: nothing is written.
-#[derive(Clone, Copy, PartialEq, Debug)]
+#[derive(Clone, Copy, PartialEq, Eq, Debug)]
 pub enum PlaceFault {
     /// The place has fewer than 4,099 bytes.
     Short,
@@ -61,3 +77,14 @@ impl PlaceFault {
         }
     }
 }
+
+/// Prints the number of the refusal.
+impl fmt::Display for PlaceFault {
+    ghost output = { λ fault. Some (decimal (place_fault_number fault)) };
+
+    fn fmt<W: fmt::Write>(&self, f: &mut fmt::Formatter<W>) -> fmt::Result {
+        write!(f, "{}", self.number())
+    }
+}
+
+impl Error for PlaceFault {}

@@ -3,7 +3,7 @@ ghost use Rattle.devices.specs.Device.{answer, after_read, after_write};
 ghost use Rattle.layers.specs.Join.{join_of, first_after, second_after};
 ghost use Rattle.layers.specs.Sounds.{join_sounds};
 
-use devices::call::{check, pass_up};
+use devices::call::pass_up;
 use devices::device::SectorDevice;
 use devices::fault::Fault;
 
@@ -47,12 +47,10 @@ impl<D: SectorDevice, E: SectorDevice> SectorDevice for Join<D, E> {
         ensures buffer_is_filled { buffer.new ≡ after_read (join_of (D.SectorDevice.meaning self.old.first) (E.SectorDevice.meaning self.old.second)) sector buffer.old }
         ensures devices_below_stay { (D.SectorDevice.meaning self.new.first ≡ D.SectorDevice.meaning self.old.first) × (E.SectorDevice.meaning self.new.second ≡ E.SectorDevice.meaning self.old.second) }
     {
-        check(self.count(), self.size(), sector, buffer.len())?;
-        let first = self.first.count();
-        if sector < first {
-            pass_up(self.first.read(sector, buffer))
-        } else {
-            pass_up(self.second.read(sector - first, buffer))
+        self.admit(sector, buffer.len())?;
+        match sector.checked_sub(self.first.count()) {
+            None => pass_up(self.first.read(sector, buffer)),
+            Some(past) => pass_up(self.second.read(past, buffer)),
         }
     }
 
@@ -62,12 +60,10 @@ impl<D: SectorDevice, E: SectorDevice> SectorDevice for Join<D, E> {
         ensures first_is_written { D.SectorDevice.meaning self.new.first ≡ first_after (answer (join_of (D.SectorDevice.meaning self.old.first) (E.SectorDevice.meaning self.old.second)) sector (length buffer.now)) (D.SectorDevice.meaning self.old.first) sector buffer.now }
         ensures second_is_written { E.SectorDevice.meaning self.new.second ≡ second_after (answer (join_of (D.SectorDevice.meaning self.old.first) (E.SectorDevice.meaning self.old.second)) sector (length buffer.now)) (D.SectorDevice.meaning self.old.first) (E.SectorDevice.meaning self.old.second) sector buffer.now }
     {
-        check(self.count(), self.size(), sector, buffer.len())?;
-        let first = self.first.count();
-        if sector < first {
-            pass_up(self.first.write(sector, buffer))
-        } else {
-            pass_up(self.second.write(sector - first, buffer))
+        self.admit(sector, buffer.len())?;
+        match sector.checked_sub(self.first.count()) {
+            None => pass_up(self.first.write(sector, buffer)),
+            Some(past) => pass_up(self.second.write(past, buffer)),
         }
     }
 }

@@ -3,7 +3,7 @@ ghost use Rattle.devices.specs.Device.{answer, after_read, after_write, written_
 ghost use Rattle.layers.specs.Window.{window_of};
 ghost use Rattle.layers.specs.Sounds.{window_sounds};
 
-use devices::call::{check, pass_up};
+use devices::call::pass_up;
 use devices::device::SectorDevice;
 use devices::fault::Fault;
 
@@ -51,7 +51,7 @@ impl<D: SectorDevice> SectorDevice for Window<D> {
         ensures place_stays { (self.new.start ≡ self.old.start) × (self.new.wanted ≡ self.old.wanted) }
         ensures device_below_stays { D.SectorDevice.meaning self.new.device ≡ D.SectorDevice.meaning self.old.device }
     {
-        check(self.count(), self.size(), sector, buffer.len())?;
+        self.admit(sector, buffer.len())?;
         pass_up(self.device.read(self.start + sector, buffer))
     }
 
@@ -61,7 +61,7 @@ impl<D: SectorDevice> SectorDevice for Window<D> {
         ensures place_stays { (self.new.start ≡ self.old.start) × (self.new.wanted ≡ self.old.wanted) }
         ensures device_below_is_written { D.SectorDevice.meaning self.new.device ≡ written_if (answer (window_of self.old.start self.old.wanted (D.SectorDevice.meaning self.old.device)) sector (length buffer.now)) (D.SectorDevice.meaning self.old.device) (self.old.start + sector) buffer.now }
     {
-        check(self.count(), self.size(), sector, buffer.len())?;
+        self.admit(sector, buffer.len())?;
         pass_up(self.device.write(self.start + sector, buffer))
     }
 }

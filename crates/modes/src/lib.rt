@@ -5,15 +5,17 @@
 
 #![tactic(auto)]
 
-ghost use Rattle.std.specs.Prelude.{◌≡◌, ℕ, Option};
+ghost use Rattle.std.specs.Prelude.{◌≡◌, ℕ, Some, Option, decimal};
 ghost use Rattle.modes.specs.Faults.{answered, mode_fault_number};
 ghost use Rattle.modes.specs.Mode.{ModeKind, Keyed, Fitting, keyed_after, obstacle, ciphered};
 ghost use Rattle.modes.specs.declared.ModeFault.TheVariants.{Key as KeyOf};
 
 use ciphers::KeyFault;
+use std::error::Error;
+use std::fmt;
 
 /// Why a mode refuses a call.
-#[derive(Clone, Copy, PartialEq, Debug)]
+#[derive(Clone, Copy, PartialEq, Eq, Debug)]
 pub enum ModeFault {
     /// The buffer has another length than the sector size, or the mode is blank.
     WrongLength,
@@ -44,6 +46,17 @@ impl ModeFault {
         }
     }
 }
+
+/// The number of the refusal in decimal.
+impl fmt::Display for ModeFault {
+    ghost output = { λ fault. Some (decimal (mode_fault_number fault)) };
+
+    fn fmt<W: fmt::Write>(&self, f: &mut fmt::Formatter<W>) -> fmt::Result {
+        fmt::Display::fmt(&self.number(), f)
+    }
+}
+
+impl Error for ModeFault {}
 
 impl From<KeyFault> for ModeFault {
     ghost from_gives = { λ x y. y ≡ KeyOf x };

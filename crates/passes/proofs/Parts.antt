@@ -1,12 +1,12 @@
 -- A row of bytes and its sector are the same thing.
-use Rattle.std.proofs.Common.{◌≡◌, ℕ, zero, suc, ◌+◌, ◌*◌, ◌/◌, ◌%◌, ◌^◌, ◌<◌, ◌≤◌, true, List, [], ◌∷◌, ◌++◌, length, take, drop, sym, refl, ap, ◌∙◌, subst, ap₂, append_assoc, lt_of_lt_of_le, suc-mul, zero-mul, arith, length-append, length-drop, length-take, take-add}
+use Rattle.std.proofs.Common.{◌≡◌, ℕ, zero, suc, ◌+◌, ◌*◌, ◌/◌, ◌%◌, ◌^◌, ◌<◌, ◌≤◌, true, List, [], ◌∷◌, ◌++◌, length, take, drop, sym, refl, ap, ◌∙◌, subst, ap₂, append_assoc, append-nil, lt_of_lt_of_le, suc-mul, zero-mul, arith, length-append, length-drop, length-take, take-add}
 use native.Mathlib.Nat.{pow-le-pow_right}
 use Rattle.std.specs.Int.Digits.{number_from_digits, AllBelowBase}
 use Rattle.std.proofs.lemmas.Nat.{div-mul-add, div-add-mod', mod_below}
 use Rattle.std.proofs.lemmas.Int.Digits.{number_lt}
 use Rattle.std.proofs.ByRecursion.{All-append, All-take, All-drop}
-use Rattle.std.proofs.lemmas.List.{take_at, drop_at, take-append-drop}
-use Rattle.rings.specs.Blocks.{bytes_of, first_blocks}
+use Rattle.std.proofs.lemmas.List.{take_at, drop_at, take-take, drop-take, take-append-drop}
+use Rattle.rings.specs.Blocks.{bytes_of, first_blocks, blocks}
 use Rattle.rings.specs.Ring.{RingKind}
 use Rattle.rings.specs.Rows.{row}
 use Rattle.rings.proofs.Bytes.{pow_bytes, length_bytes_of}
@@ -19,6 +19,12 @@ module _ (w : ℕ) where
   unfolding bytes
   length_bytes [] = sym (zero-mul w)
   length_bytes (x ∷ xs) = length-append (bytes_of w x) (bytes w xs) ∙ ap₂ ◌+◌ (length_bytes_of w x) (length_bytes xs) ∙ omega (arith, suc-mul (length xs) w)
+
+  -- one block more
+  pub bytes_push : (xs : List ℕ) (x : ℕ) → bytes w (xs ++ (x ∷ [])) ≡ bytes w xs ++ bytes_of w x
+  unfolding bytes
+  bytes_push [] x = append-nil (bytes_of w x)
+  bytes_push (y ∷ ys) x = ap (λ (l : List ℕ). bytes_of w y ++ l) (bytes_push ys x) ∙ sym (append_assoc (bytes_of w y) (bytes w ys) (bytes_of w x))
 
   under_bytes : (xs : List ℕ) → AllBelowBase 256 (bytes w xs)
   unfolding bytes
@@ -60,6 +66,22 @@ module _ (w : ℕ) where
       let one = ap (λ n. bytes_of n (number_from_digits 256 part)) (sym long) ∙ bytes_of_number part (All-take (λ d. d < 256) w bs h) in
       let total : w + m * w ≡ suc m * w = omega arith in
       ap₂ ◌++◌ one (bytes_blocks m (drop w bs) (All-drop (λ d. d < 256) w bs h) rest) ∙ sym (take-add w (m * w) bs) ∙ ap (λ n. take n bs) total
+
+  -- the first m blocks stand in the first m·w bytes
+  pub blocks_take : (m : ℕ) (bs : List ℕ) → first_blocks w m (take (m * w) bs) ≡ first_blocks w m bs
+  unfolding first_blocks
+  blocks_take zero bs = refl
+  blocks_take (suc m) bs =
+      let sum : suc m * w ≡ w + m * w = omega (arith, suc-mul m w) in
+      ap (λ (n : ℕ). first_blocks w (suc m) (take n bs)) sum
+      ∙ ap₂ (λ (l t : List ℕ). number_from_digits 256 l ∷ first_blocks w m t) (take-take w (w + m * w) bs (omega arith)) (drop-take w (m * w) bs)
+      ∙ ap (λ (l : List ℕ). number_from_digits 256 (take w bs) ∷ l) (blocks_take m (drop w bs))
+
+  -- and are all of these
+  pub blocks_ahead : (m : ℕ) (bs : List ℕ) → 1 ≤ w → m * w ≤ length bs → blocks w (take (m * w) bs) ≡ first_blocks w m bs
+  blocks_ahead m bs some fits =
+      let long : length (take (m * w) bs) ≡ m * w + 0 = simp length-take (omega arith) in
+      ap (λ (n : ℕ). first_blocks w n (take (m * w) bs)) (ap (λ (n : ℕ). n / w) long ∙ div-mul-add m w 0 some) ∙ blocks_take m bs
 
 module _ (r : RingKind) where
   pub parted_joined : (m t : ℕ) → t < r.width → (s : Sector) → Sound r m t s → parted r.width (joined r.width s) ≡ s

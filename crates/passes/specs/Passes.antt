@@ -18,6 +18,10 @@ plus s xs = map (λ x. bit_xor x s) xs
 abbrev pub added : ℕ → Sector → Sector
 added s x = record { blocks = plus s x.blocks; tail = x.tail }
 
+-- f i of block i, counted from 0
+abbrev pub placed : (ℕ → ℕ → ℕ) → Sector → Sector
+placed f x = record { blocks = placewise f 0 x.blocks; tail = x.tail }
+
 -- f(X_i)
 abbrev pub mapped : (ℕ → ℕ) → Sector → Sector
 mapped f x = record { blocks = map f x.blocks; tail = x.tail }
@@ -29,7 +33,7 @@ module _ (r : RingKind) where
 
   -- X_i + α^(i-1)·β
   abbrev pub whitened : ℕ → Sector → Sector
-  whitened β x = record { blocks = placewise (whitened_at β) 0 x.blocks; tail = x.tail }
+  whitened β = placed (whitened_at β)
 
   -- pad(Y): Y, the byte 80, then zeros up to w bytes
   abbrev pub pad : List ℕ → ℕ

@@ -1,7 +1,7 @@
 -- The record of a task reads as that task.
-use Rattle.std.proofs.Common.{◌≡◌, ℕ, ◌+◌, ◌*◌, ◌/◌, ◌%◌, ◌≤◌, leb, List, [], ◌∷◌, ◌++◌, length, take, Some, None, sym, refl, ap, ◌∙◌, arith, length-append}
+use Rattle.std.proofs.Common.{◌≡◌, ℕ, ◌+◌, ◌*◌, ◌/◌, ◌%◌, List, [], ◌++◌, length, Some, refl, arith, length-append}
 use Rattle.std.proofs.lemmas.List.{take_at, drop_at}
-use Rattle.std.proofs.lemmas.Bool.{cond-true, le-leb}
+use Rattle.std.proofs.lemmas.Bool.{le-leb}
 use Rattle.records.specs.declared.Mode.{Mode}
 use Rattle.records.specs.declared.Mode.TheVariants.{Tet, Heh}
 use Rattle.records.specs.declared.Cipher.{Cipher}
@@ -9,9 +9,8 @@ use Rattle.records.specs.declared.Cipher.TheVariants.{Aes128, Xtea, Mask1, Mask8
 use Rattle.records.specs.declared.Direction.{Direction}
 use Rattle.records.specs.declared.Direction.TheVariants.{Encipher, Decipher}
 use Rattle.records.specs.Codes.{mode_named, cipher_named, direction_named}
-use Rattle.records.specs.Record.{split, mapped}
-use Rattle.records.specs.Writing.{mode_code, cipher_code, direction_code, behind_length, record_of, Reading}
-use Rattle.records.proofs.Fronts.{fields_are}
+use Rattle.records.specs.Record.{split}
+use Rattle.records.specs.Writing.{mode_code, cipher_code, direction_code, behind_length, Reading}
 
 mode_is_named : (m : Mode) → mode_named (mode_code m) ≡ Some m
 mode_is_named Tet = refl
@@ -28,29 +27,17 @@ direction_is_named : (d : Direction) → direction_named (direction_code d) ≡ 
 direction_is_named Encipher = refl
 direction_is_named Decipher = refl
 
--- so many bytes off the front
-split_front : (n : ℕ) (bs rest : List ℕ) → length bs ≡ n → Some (record { value = bs; rest = rest }) ≡ split n (bs ++ rest)
-split_front n bs rest long =
-    let fits : n ≤ length (bs ++ rest) = omega (arith, length-append bs rest) in
-    ap (λ (v : List ℕ). Some (record { value = v; rest = rest })) (sym (take_at bs rest n long))
-    ∙ ap (λ (r : List ℕ). Some (record { value = take n (bs ++ rest); rest = r })) (sym (drop_at bs rest n long))
-    ∙ sym (cond-true (leb n (length (bs ++ rest))) _ _ (le-leb n (length (bs ++ rest)) fits))
-
+-- a row of bytes off the front, by its length in two bytes
 behind : (bs rest : List ℕ) → Some (record { value = bs; rest = rest }) ≡ split (length bs / 256 * 256 + length bs % 256) (bs ++ rest)
-behind bs rest = split_front (length bs / 256 * 256 + length bs % 256) bs rest (omega arith)
+behind bs rest =
+    let n = length bs in
+    let whole : n / 256 * 256 + n % 256 ≡ n = omega arith in
+    let fits = le-leb n (length (bs ++ rest)) (omega (arith, length-append bs rest)) in
+    rw (whole, fits, take_at bs rest n refl, drop_at bs rest n refl)
 
 pub reading : Reading
 reading t short =
     let sector = behind_length t.sector [] in
     let tweak = behind_length t.tweak sector in
     let key = behind_length t.key tweak in
-    cond-true (leb (length (record_of t)) 16384) (mapped (record_of t)) None (le-leb _ _ short)
-    ∙ sym (fields_are 63 (mode_code t.mode ∷ cipher_code t.cipher ∷ direction_code t.direction ∷ key)
-    (record { value = mode_code t.mode; rest = cipher_code t.cipher ∷ direction_code t.direction ∷ key })
-    (record { value = cipher_code t.cipher; rest = direction_code t.direction ∷ key })
-    (record { value = direction_code t.direction; rest = key })
-    (record { value = t.key; rest = tweak })
-    (record { value = t.tweak; rest = sector })
-    (record { value = t.sector; rest = [] })
-    refl refl refl (behind t.key tweak) (behind t.tweak sector) (behind t.sector []))
-    ∙ rw (mode_is_named t.mode, cipher_is_named t.cipher, direction_is_named t.direction)
+    rw (le-leb _ _ short, ← behind t.key tweak, ← behind t.tweak sector, ← behind t.sector [], mode_is_named t.mode, cipher_is_named t.cipher, direction_is_named t.direction)

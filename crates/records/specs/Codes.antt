@@ -1,6 +1,7 @@
 -- What the codes of a record name.
-use Rattle.std.specs.Prelude.{ℕ, cond, Some, None, Option, ◌==◌}
+use Rattle.std.specs.Prelude.{ℕ, cond, Some, None, Option, ◌==◌, List, ◌++◌, codes, decimal}
 use Rattle.records.specs.declared.RecordFault.{RecordFault}
+use Rattle.records.specs.declared.UnknownCode.{UnknownCode}
 use Rattle.records.specs.declared.RecordFault.TheVariants.{Malformed}
 use Rattle.records.specs.declared.Mode.{Mode}
 use Rattle.records.specs.declared.Mode.TheVariants.{Tet, Heh}
@@ -26,3 +27,7 @@ cipher_named c =
 -- 0 encipher, 1 decipher
 abbrev pub direction_named : ℕ → Option Direction
 direction_named c = cond (c == 0) (Some Encipher) (cond (c == 1) (Some Decipher) None)
+
+-- the text of an unknown code
+abbrev pub unknown_code_text : UnknownCode → List ℕ
+unknown_code_text e = codes "unknown code " ++ decimal e.0

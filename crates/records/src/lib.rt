@@ -2,25 +2,41 @@
 //!
 //! A record is a bit map, then the fields whose bits stand, lowest first: three codes of one byte (mode, cipher,
 //! direction), then key, tweak and sector, each with its length in two bytes, the first the higher. `specs/Record.antt` says
-//! what each record reads as; `parts` takes one code or one field off the front of a record.
+//! what each record reads as; `reader` takes one code or one field off the front of a record.
 
 #![tactic(auto)]
 
-ghost use Rattle.std.specs.Prelude.{◌≡◌, ◌<◌};
-ghost use Rattle.records.specs.Codes.{record_fault_number, mode_named, cipher_named, direction_named};
-ghost use Rattle.records.specs.Record.{read as read_as, named as named_as, fields as fields_as, stands as stands_in};
+ghost use Rattle.std.specs.Prelude.{◌≡◌, ◌<◌, Some, decimal};
+ghost use Rattle.std.specs.Option.{ok_or, option_map};
+ghost use Rattle.records.specs.Codes.{record_fault_number, mode_named, cipher_named, direction_named, unknown_code_text};
+ghost use Rattle.records.specs.Record.{read as read_as, fields as fields_as, stands as stands_in};
 ghost use Rattle.records.specs.Writing.{Reading};
-ghost use Rattle.records.specs.Views.{job_in, job_or};
+ghost use Rattle.records.specs.Views.{task_of, job_or};
 
-use crate::parts::{take_code, take_field};
+use crate::reader::Reader;
+use std::error::Error;
+use std::fmt;
 
-mod parts;
+mod reader;
 
 /// The longest record, in bytes.
 const LONGEST: usize = 16384;
 
+/// The bits of the map, each of which says whether a record has the field that it is named after.
+const MODE: u8 = 0;
+
+const CIPHER: u8 = 1;
+
+const DIRECTION: u8 = 2;
+
+const KEY: u8 = 3;
+
+const TWEAK: u8 = 4;
+
+const SECTOR: u8 = 5;
+
 /// Why a record is no job.
-#[derive(Clone, Copy, PartialEq, Debug)]
+#[derive(Clone, Copy, PartialEq, Eq, Debug)]
 pub enum RecordFault {
     /// It is cut short, too long, has an unknown bit or code, no key or no sector.
     Malformed,
@@ -37,28 +53,55 @@ impl RecordFault {
     }
 }
 
+/// Prints the number of the refusal.
+impl fmt::Display for RecordFault {
+    ghost output = { λ fault. Some (decimal (record_fault_number fault)) };
+
+    fn fmt<W: fmt::Write>(&self, f: &mut fmt::Formatter<W>) -> fmt::Result {
+        write!(f, "{}", self.number())
+    }
+}
+
+impl Error for RecordFault {}
+
+/// A code that names nothing.
+#[derive(Clone, Copy, PartialEq, Eq, Debug)]
+pub struct UnknownCode(pub u8);
+
+impl fmt::Display for UnknownCode {
+    ghost output = { λ e. Some (unknown_code_text e) };
+
+    fn fmt<W: fmt::Write>(&self, f: &mut fmt::Formatter<W>) -> fmt::Result {
+        write!(f, "unknown code {}", self.0)
+    }
+}
+
+impl Error for UnknownCode {}
+
 /// A wide mode.
-#[derive(Clone, Copy, PartialEq, Debug)]
+#[derive(Clone, Copy, PartialEq, Eq, Debug)]
 pub enum Mode {
     Tet,
     Heh,
 }
 
-impl Mode {
-    /// The mode with this code.
-    pub fn named(code: u8) -> Option<Mode>
-        ensures mode { result ≡ mode_named code }
-    {
+/// The mode with a code.
+impl TryFrom<u8> for Mode {
+    type Error = UnknownCode;
+
+    ghost try_from_gives = { λ code r. r ≡ ok_or (mode_named code) (record { 0 = code }) };
+
+    fn try_from(code: u8) -> Result<Mode, UnknownCode> {
         match code {
-            1 => Some(Mode::Tet),
-            2 => Some(Mode::Heh),
-            0 | 3..=255 => None,
+            1 => Ok(Mode::Tet),
+            2 => Ok(Mode::Heh),
+            0 | 3..=255 => Err(UnknownCode(code)),
         }
     }
 }
 
 /// A block cipher; of the mask, with the bytes of its blocks.
-#[derive(Clone, Copy, PartialEq, Debug)]
+#[derive(Clone, Copy, PartialEq, Eq, Debug)]
 pub enum Cipher {
     Aes128,
     Xtea,
@@ -67,38 +110,42 @@ pub enum Cipher {
     Mask16,
 }
 
-impl Cipher {
-    /// The cipher with this code.
-    pub fn named(code: u8) -> Option<Cipher>
-        ensures cipher { result ≡ cipher_named code }
-    {
+/// The cipher with a code.
+impl TryFrom<u8> for Cipher {
+    type Error = UnknownCode;
+
+    ghost try_from_gives = { λ code r. r ≡ ok_or (cipher_named code) (record { 0 = code }) };
+
+    fn try_from(code: u8) -> Result<Cipher, UnknownCode> {
         match code {
-            1 => Some(Cipher::Aes128),
-            2 => Some(Cipher::Xtea),
-            3 => Some(Cipher::Mask1),
-            4 => Some(Cipher::Mask8),
-            5 => Some(Cipher::Mask16),
-            0 | 6..=255 => None,
+            1 => Ok(Cipher::Aes128),
+            2 => Ok(Cipher::Xtea),
+            3 => Ok(Cipher::Mask1),
+            4 => Ok(Cipher::Mask8),
+            5 => Ok(Cipher::Mask16),
+            0 | 6..=255 => Err(UnknownCode(code)),
         }
     }
 }
 
 /// What is done with the sector.
-#[derive(Clone, Copy, PartialEq, Debug)]
+#[derive(Clone, Copy, PartialEq, Eq, Debug)]
 pub enum Direction {
     Encipher,
     Decipher,
 }
 
-impl Direction {
-    /// The direction with this code.
-    pub fn named(code: u8) -> Option<Direction>
-        ensures direction { result ≡ direction_named code }
-    {
+/// The direction with a code.
+impl TryFrom<u8> for Direction {
+    type Error = UnknownCode;
+
+    ghost try_from_gives = { λ code r. r ≡ ok_or (direction_named code) (record { 0 = code }) };
+
+    fn try_from(code: u8) -> Result<Direction, UnknownCode> {
         match code {
-            0 => Some(Direction::Encipher),
-            1 => Some(Direction::Decipher),
-            2..=255 => None,
+            0 => Ok(Direction::Encipher),
+            1 => Ok(Direction::Decipher),
+            2..=255 => Err(UnknownCode(code)),
         }
     }
 }
@@ -122,70 +169,38 @@ fn stands(map: u8, bit: u8) -> bool
     (map >> bit) % 2 == 1
 }
 
-/// The job of six parts, where each code names something.
-fn named<'a>(
-    mode: u8,
-    cipher: u8,
-    direction: u8,
-    key: &'a [u8],
-    tweak: &'a [u8],
-    sector: &'a [u8],
-) -> Option<Job<'a>>
-    ensures { job_in result ≡ named_as (mode_named mode) (cipher_named cipher) (direction_named direction) key.now tweak.now sector.now }
+/// The fields whose bits stand, which are all of the bytes. An absent code is that of TET, of AES-128, or of enciphering.
+fn fields(map: u8, bytes: &[u8]) -> Option<Job<'_>>
+    ensures { option_map task_of result ≡ fields_as map bytes.now }
 {
-    match (
-        Mode::named(mode),
-        Cipher::named(cipher),
-        Direction::named(direction),
-    ) {
-        (Some(mode), Some(cipher), Some(direction)) => Some(Job {
-            mode,
-            cipher,
-            direction,
-            key,
-            tweak,
-            sector,
-        }),
-        _ => None,
-    }
-}
-
-/// The fields whose bits stand, which are all of the bytes.
-fn fields<'a>(map: u8, bytes: &'a [u8]) -> Option<Job<'a>>
-    ensures { job_in result ≡ fields_as map bytes.now }
-{
-    let mode = take_code(stands(map, 0), 1, bytes)?;
-    let cipher = take_code(stands(map, 1), 1, mode.rest)?;
-    let direction = take_code(stands(map, 2), 0, cipher.rest)?;
-    let key = take_field(stands(map, 3), direction.rest)?;
-    let tweak = take_field(stands(map, 4), key.rest)?;
-    let sector = take_field(stands(map, 5), tweak.rest)?;
-    if !sector.rest.is_empty() {
+    let mut reader = Reader { rest: bytes };
+    let mode = reader.code(stands(map, MODE), 1)?;
+    let cipher = reader.code(stands(map, CIPHER), 1)?;
+    let direction = reader.code(stands(map, DIRECTION), 0)?;
+    let key = reader.field(stands(map, KEY))?;
+    let tweak = reader.field(stands(map, TWEAK))?;
+    let sector = reader.field(stands(map, SECTOR))?;
+    if !reader.rest.is_empty() {
         return None;
     }
-    named(
-        mode.value,
-        cipher.value,
-        direction.value,
-        key.value,
-        tweak.value,
-        sector.value,
-    )
+    Some(Job {
+        mode: Mode::try_from(mode).ok()?,
+        cipher: Cipher::try_from(cipher).ok()?,
+        direction: Direction::try_from(direction).ok()?,
+        key,
+        tweak,
+        sector,
+    })
 }
 
 /// The job that a record asks for, or that it is malformed.
-pub fn read<'a>(record: &'a [u8]) -> Result<Job<'a>, RecordFault>
-    ensures job { job_or result ≡ read_as «record».now }
+pub fn read(bytes: &[u8]) -> Result<Job<'_>, RecordFault>
+    ensures job { job_or result ≡ read_as bytes.now }
 {
-    if LONGEST < record.len() {
-        return Err(RecordFault::Malformed);
-    }
-    let [map, bytes @ ..] = record else {
-        return Err(RecordFault::Malformed);
-    };
-    match *map {
-        0..=63 if stands(*map, 3) && stands(*map, 5) => {
-            fields(*map, bytes).ok_or(RecordFault::Malformed)
+    match bytes {
+        [map @ 0..=63, rest @ ..]
+            if bytes.len() <= LONGEST && stands(*map, KEY) && stands(*map, SECTOR) => {
+            fields(*map, rest).ok_or(RecordFault::Malformed)
         }
         _ => Err(RecordFault::Malformed),
     }

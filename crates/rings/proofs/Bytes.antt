@@ -1,10 +1,10 @@
 -- Blocks and their bytes.
-use Rattle.std.proofs.Common.{◌≡◌, ℕ, zero, suc, ◌+◌, ◌-◌, ◌*◌, ◌/◌, ◌%◌, ◌^◌, ◌<◌, ◌≤◌, List, [], ◌∷◌, ◌++◌, length, get_or, take, drop, set, sym, refl, ap, ◌∙◌, subst, ap₂, lt_of_lt_of_le, mul-le-mul_right, mod-eq_of_lt, mul_assoc, suc-mul, mul_comm, pow-suc, zero-mul, mul-suc, div-mul-le_self, div-one, add-one, arith, length-append, length-take, pow_pos, pow-add}
+use Rattle.std.proofs.Common.{◌≡◌, ℕ, zero, suc, ◌+◌, ◌-◌, ◌*◌, ◌/◌, ◌%◌, ◌^◌, ◌<◌, ◌≤◌, List, [], ◌∷◌, ◌++◌, length, get_or, take, drop, set, sym, refl, ap, ◌∙◌, subst, lt_of_lt_of_le, mul-le-mul_right, mul_assoc, suc-mul, mul_comm, pow-suc, zero-mul, mul-suc, div-mul-le_self, div-one, add-one, arith, length-append, length-take, pow-add}
 use native.Mathlib.Nat.{mul-add-mod_self_right, pow-le-pow_right, pow-succ', pow-zero, div-eq_of_lt, div-div-eq-div-mul}
 use native.Mathlib.Decide.{dec_lt}
-use lib.Bits.{bit_and, bit_or, and_mask, or_shifted}
+use lib.Bits.{bit_xor, xor_mod, xor_shifted}
 use Rattle.std.specs.Int.Digits.{number_from_digits, AllBelowBase}
-use Rattle.std.proofs.lemmas.Nat.{mod_low, mod_below, div-add-mod'}
+use Rattle.std.proofs.lemmas.Nat.{div-add-mod'}
 use Rattle.std.proofs.lemmas.Int.Digits.{number_lt}
 use Rattle.std.proofs.ByRecursion.{All-take, All-drop}
 use Rattle.std.proofs.lemmas.List.{drop-drop, get_or_append_left, get_or-append_right, take_more, take_more_set}
@@ -24,31 +24,11 @@ mod_shift a b n =
     let split : a * 256 + b ≡ q * 256 * n + (a % n * 256 + b) = omega (arith, div-add-mod' a n, turn) in
     sym (ap (λ (m : ℕ). m % n) split ∙ mul-add-mod_self_right (q * 256) n (a % n * 256 + b))
 
--- a byte in at the low end of a word of k + 8 bits, by a shift and an or
-pub pushed : (k a b : ℕ) → a < 2 ^ (k + 8) → b < 256
-    → bit_or (a * 256 % 2 ^ (k + 8)) b % 2 ^ (k + 8) ≡ (a % 2 ^ (k + 8) * 256 + b) % 2 ^ (k + 8)
-pushed k a b fits h =
-    let N : ℕ = 2 ^ (k + 8) in
-    let low : ℕ = a % 2 ^ k in
-    let wide : 2 ^ (k + 8) ≡ 2 ^ k * 256 = pow-add 2 k 8 in
-    let in_low : low < 2 ^ k = mod_below a (2 ^ k) (pow_pos k) in
-    let room : low * 256 + b < 2 ^ (k + 8) = omega (arith, wide, in_low) in
-    let parts : a * 256 ≡ a / 2 ^ k * 2 ^ (k + 8) + low * 256 =
-    ap (λ (x : ℕ). x * 256) (sym (div-add-mod' a (2 ^ k))) ∙ at (a / 2 ^ k) low wide in
-    let cut : a * 256 % 2 ^ (k + 8) ≡ low * 256 = ap (λ (x : ℕ). x % 2 ^ (k + 8)) parts ∙ mod_low (a / 2 ^ k) (k + 8) (low * 256) (omega arith) in
-    let whole : a * 256 + b ≡ a / 2 ^ k * 2 ^ (k + 8) + (low * 256 + b) = omega (arith, parts) in
-    ap (λ (x : ℕ). bit_or x b % 2 ^ (k + 8)) cut ∙ ap (λ (x : ℕ). x % 2 ^ (k + 8)) (or_shifted low 8 b h) ∙ mod-eq_of_lt room
-    ∙ sym (ap (λ (x : ℕ). (x * 256 + b) % 2 ^ (k + 8)) (mod-eq_of_lt fits) ∙ ap (λ (x : ℕ). x % 2 ^ (k + 8)) whole ∙ mod_low (a / 2 ^ k) (k + 8) (low * 256 + b) room)
-  where
-    at : (q l : ℕ) → 2 ^ (k + 8) ≡ 2 ^ k * 256 → (q * 2 ^ k + l) * 256 ≡ q * 2 ^ (k + 8) + l * 256
-    at q l wide = omega (arith, ap (λ (x : ℕ). q * x) wide, mul_assoc q (2 ^ k) 256)
+-- a byte in at the low end of a word of n bits, by a shift and a sum of polynomials
+pub pushed : (n a b : ℕ) → b < 256 → bit_xor (a * 2 ^ 8 % 2 ^ n) (b % 2 ^ n) ≡ (a * 256 + b) % 2 ^ n
+pushed n a b h = sym (xor_mod (a * 2 ^ 8) b n) ∙ ap (λ (x : ℕ). x % 2 ^ n) (xor_shifted a 8 b h)
 
 -- ---- one byte out
-
--- by a shift and a mask
-pub byte_in : (n a i : ℕ) → a < 2 ^ n → bit_and (a / 2 ^ (8 * i)) 255 ≡ a % 2 ^ n / 256 ^ i % 256
-byte_in n a i fits =
-    and_mask (a / 2 ^ (8 * i)) 8 ∙ sym (ap₂ (λ (x y : ℕ). x / y % 256) (mod-eq_of_lt fits) (pow_bytes i))
 
 -- nothing stands past the block
 pub byte_past : (w a i : ℕ) → a < 2 ^ (8 * w) → w ≤ i → 0 ≡ a / 256 ^ i % 256
@@ -101,7 +81,7 @@ block_inside i n w h =
     omega (arith, mul-le-mul_right w le, div-mul-le_self n w, suc-mul i w)
 
 -- w bytes, or fewer, write a block
-first_below : (w : ℕ) (bs : List ℕ) → AllBelowBase 256 bs → number_from_digits 256 (take w bs) < 2 ^ (8 * w)
+pub first_below : (w : ℕ) (bs : List ℕ) → AllBelowBase 256 bs → number_from_digits 256 (take w bs) < 2 ^ (8 * w)
 first_below w bs under =
     let short : length (take w bs) ≤ w = simp length-take (omega arith) in
     subst (λ (n : ℕ). number_from_digits 256 (take w bs) < n) (pow_bytes w)

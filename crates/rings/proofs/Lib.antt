@@ -1,5 +1,6 @@
 pub mod Blending
 pub mod Bytes
+mod Chunks
 pub mod Powers
 mod Reading
 pub mod Rows

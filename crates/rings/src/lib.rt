@@ -93,8 +93,8 @@ pub trait BlockRing: Copy {
         ensures { bytes.new ≡ bytes_of (length bytes.old) (value self) }
     {
         let count = bytes.len();
-        for i in 0..count {
-            bytes[i] = self.byte(count - 1 - i);
+        for (i, byte) in bytes.iter_mut().enumerate() {
+            *byte = self.byte(count - 1 - i);
         }
     }
 

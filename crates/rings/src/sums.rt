@@ -1,29 +1,18 @@
 //! Sums of powers of a hash value τ.
 
-ghost use Rattle.std.specs.Prelude.{◌≡◌, ℕ, ◌*◌, ◌/◌, ◌<◌, length};
-ghost use Rattle.rings.specs.Blocks.{block_at, blocks};
+ghost use Rattle.std.specs.Prelude.{◌≡◌, ℕ};
+ghost use Rattle.rings.specs.Blocks.{blocks};
 ghost use Rattle.rings.specs.Sums.{hash_sum, sigma};
 
 use crate::BlockRing;
-
-/// Block `i` of a sector, counted from 0.
-fn block_at<R: BlockRing>(sector: &[u8], i: usize) -> R
-    requires { i < length sector.now / R.ring.width }
-    ensures { R.value result ≡ block_at R.ring.width i sector.now }
-{
-    let w = R::width();
-    let start = i * w;
-    R::from_bytes(&sector[start..start + w])
-}
 
 /// H(τ; B_1..B_m) = B_1·τ^m + .. + B_m·τ over the whole blocks of a sector, by Horner's rule.
 pub fn hash_sum<R: BlockRing>(tau: R, sector: &[u8]) -> R
     ensures { R.value result ≡ hash_sum R.ring (R.value tau) (blocks R.ring.width sector.now) }
 {
-    let count = sector.len() / R::width();
     let mut sum = R::zero();
-    for i in 0..count {
-        sum = sum.add(block_at(sector, i)).multiply(tau);
+    for block in sector.chunks_exact(R::width()) {
+        sum = sum.add(R::from_bytes(block)).multiply(tau);
     }
     sum
 }
@@ -53,7 +42,7 @@ pub fn power_sum<R: BlockRing>(tau: R, m: usize) -> R
     let half = m / 2;
     let mut sum = one;
     let mut power = tau;
-    for i in (0..63 - half.leading_zeros()).rev() {
+    for i in (0..half.ilog2()).rev() {
         sum = sum.add(times_first_powers(half >> (i + 1), power, sum));
         power = power.multiply(power);
         if half >> i & 1 == 1 {

@@ -1,6 +1,5 @@
-ghost use Rattle.std.specs.Prelude.{◌≡◌, ◌∷◌, map, length};
-ghost use Rattle.devices.specs.Device.{answer, after_read};
-ghost use Rattle.volumes.specs.Volume.{view, volume_of};
+ghost use Rattle.std.specs.Prelude.{◌≡◌, ◌∷◌, map};
+ghost use Rattle.volumes.specs.Volume.{view};
 ghost use Rattle.runs.specs.History.{History};
 ghost use Rattle.runs.specs.Runs.{after, run, event, history};
 ghost use Rattle.runs.specs.Law.{UpheldOn};
@@ -8,22 +7,8 @@ ghost use Rattle.runs.specs.Script.{line, call_of, calls, noted, recorded, answe
 
 use crate::script::Entry;
 use devices::device::SectorDevice;
-use devices::fault::Fault;
 use modes::WideMode;
 use volumes::volume::Volume;
-
-fn read_into<D: SectorDevice, M: WideMode>(
-    volume: &mut Volume<D, M>,
-    sector: u32,
-    buffer: &mut Vec<u8>,
-) -> Result<(), Fault>
-    ensures call_is_answered { result ≡ answer (volume_of M.kind (view D.meaning M.state volume.old)) sector (length buffer.old.items) }
-    ensures volume_stays { view D.meaning M.state volume.new ≡ view D.meaning M.state volume.old }
-    ensures length_stays { length buffer.new.items ≡ length buffer.old.items }
-    ensures buffer_is_filled { buffer.new.items ≡ after_read (volume_of M.kind (view D.meaning M.state volume.old)) sector buffer.old.items }
-{
-    volume.read(sector, buffer.as_mut_slice())
-}
 
 /// Makes the call of the entry, and puts its answer there.
 fn make<D: SectorDevice, M: WideMode>(volume: &mut Volume<D, M>, entry: &mut Entry)
@@ -37,7 +22,7 @@ fn make<D: SectorDevice, M: WideMode>(volume: &mut Volume<D, M>, entry: &mut Ent
             sector,
             buffer,
             answer,
-        } => *answer = Some(read_into(volume, *sector, buffer)),
+        } => *answer = Some(volume.read(*sector, buffer)),
         Entry::Write {
             sector,
             bytes,

@@ -1,19 +1,22 @@
 -- The last block and the tail, as the code writes them.
-use Rattle.std.proofs.Common.{◌≡◌, ℕ, suc, ◌+◌, ◌-◌, ◌*◌, ◌/◌, ◌%◌, ◌^◌, ◌<◌, ◌≤◌, List, [], ◌∷◌, ◌++◌, map, length, take, drop, sym, refl, ap, ◌∙◌, subst, ap₂, append_assoc, append-nil, mul-le-mul_right, mod-eq_of_lt, suc-mul, arith, length-append}
-use lib.ListN.{length-map}
+use Rattle.std.proofs.Common.{◌≡◌, ℕ, zero, suc, ◌+◌, ◌-◌, ◌*◌, ◌/◌, ◌%◌, ◌^◌, ◌<◌, ◌≤◌, List, [], ◌∷◌, ◌++◌, length, take, drop, sym, refl, ap, ◌∙◌, subst, ap₂, append_assoc, append-nil, mul-le-mul_right, mul-le-mul_left, mod-eq_of_lt, suc-mul, zero-mul, arith}
+use Rattle.std.proofs.Math.Nat.{zero-div}
+use native.Mathlib.Decide.{dec_lt}
+use lib.Bits.{bit_xor, xor_zero_r}
 use borrow.Rule.Slice.PartMut.{put_mid}
 use Rattle.std.specs.Int.Digits.{number_from_digits, AllBelowBase}
-use Rattle.std.proofs.lemmas.Nat.{le-div}
-use Rattle.std.proofs.lemmas.List.{take_at, drop_at, drop_all, take_rest}
+use Rattle.std.proofs.lemmas.Nat.{div-add-mod'}
+use Rattle.std.proofs.lemmas.List.{take_at, drop_at, take_all, drop_all}
 use Rattle.rings.specs.Blocks.{bytes_of, first_blocks}
 use Rattle.rings.specs.Ring.{RingKind, size}
-use Rattle.rings.proofs.Bytes.{pow_bytes, length_bytes_of}
+use Rattle.rings.proofs.Bytes.{pow_bytes, length_bytes_of, bytes_of_at, blocks_none}
 use Rattle.rings.proofs.Rows.{number_bytes_of}
-use Rattle.passes.specs.Passes.{mapped, mixed}
+use Rattle.passes.specs.Passes.{mixed_at, mixed}
 use Rattle.passes.specs.Sector.{bytes, joined, rowwise}
-use Rattle.passes.proofs.Parts.{length_bytes, length_blocks, blocks_below}
-use Rattle.passes.proofs.Stages.{under_map}
-use Rattle.tet_theory.specs.Tet.{last, on_last, crypted_with, crypted}
+use Rattle.passes.proofs.Ends.{mixed_past}
+use Rattle.passes.proofs.Loops.{placewise_same}
+use Rattle.passes.proofs.Parts.{length_bytes, length_blocks, blocks_below, bytes_blocks, joined_parted}
+use Rattle.tet_theory.specs.Tet.{last, on_last, crypted_tail_of, crypted_tail}
 
 front : List ℕ → List ℕ
 front [] = []
@@ -44,102 +47,122 @@ last_below b [] some h = absurd (omega arith)
 last_below b (x ∷ []) some h = h.0
 last_below b (x ∷ y ∷ ys) some h = last_below b (y ∷ ys) (omega arith) h.1
 
-module _ (r : RingKind) (f : ℕ → ℕ) (ys ts : List ℕ) (a n : ℕ) (low : AllBelowBase (size r) ys) (some : 0 < length ys) (end : n ≡ length ys * r.width) (start : a + r.width ≡ n) where
+some_of : (m w : ℕ) → 0 < m * w → 1 ≤ m
+some_of zero w h = absurd (omega (arith, zero-mul w))
+some_of (suc m) w h = omega arith
+
+-- ---- a row of blocks, cut at a before the last
+
+module _ (r : RingKind) (ys : List ℕ) (a n : ℕ) (some : 0 < length ys) (end : n ≡ length ys * r.width) (start : a + r.width ≡ n) (text : List ℕ) (is : text ≡ bytes r.width ys) where
   a_is : length (bytes r.width (front ys)) ≡ a
   a_is = length_bytes r.width (front ys) ∙ omega (arith, ap (λ i. i * r.width) (length_front ys some), suc-mul (length (front ys)) r.width)
 
-  piece : (text : List ℕ) → text ≡ bytes r.width ys ++ ts → drop a text ≡ bytes_of r.width (last ys) ++ ts
-  piece text is =
-      ap (drop a) (is ∙ ap (λ l. l ++ ts) (bytes_last r.width ys some) ∙ append_assoc (bytes r.width (front ys)) (bytes_of r.width (last ys)) ts)
-      ∙ drop_at (bytes r.width (front ys)) (bytes_of r.width (last ys) ++ ts) a a_is
+  cut : text ≡ bytes r.width (front ys) ++ bytes_of r.width (last ys)
+  cut = is ∙ bytes_last r.width ys some
 
-  count : n - a ≡ r.width
-  count = omega arith
+  piece : drop a text ≡ bytes_of r.width (last ys)
+  piece = ap (drop a) cut ∙ drop_at (bytes r.width (front ys)) (bytes_of r.width (last ys)) a a_is
 
-  part : (text : List ℕ) → text ≡ bytes r.width ys ++ ts → take (n - a) (drop a text) ≡ bytes_of r.width (last ys)
-  part text is = (λ t. take (count t) (piece text is t)) ∙ take_at (bytes_of r.width (last ys)) ts r.width (length_bytes_of r.width (last ys))
+  enough : length (drop a text) ≤ n - a
+  enough = rw (piece, length_bytes_of r.width (last ys)) (omega arith)
 
-  last_read : (text : List ℕ) → text ≡ bytes r.width ys ++ ts → number_from_digits 256 (take (n - a) (drop a text)) % size r ≡ last ys
-  last_read text is =
+  part : take (n - a) (drop a text) ≡ bytes_of r.width (last ys)
+  part = take_all (n - a) (drop a text) enough ∙ piece
+
+  last_read : AllBelowBase (size r) ys → number_from_digits 256 (take (n - a) (drop a text)) % size r ≡ last ys
+  last_read low =
       let below = last_below (size r) ys some low in
       let wide : last ys < 256 ^ r.width = subst (λ i. last ys < i) (sym (pow_bytes r.width)) below in
-      ap (λ l. number_from_digits 256 l % size r) (part text is) ∙ ap (λ i. i % size r) (number_bytes_of r.width (last ys) wide) ∙ mod-eq_of_lt below
+      ap (λ l. number_from_digits 256 l % size r) part ∙ ap (λ i. i % size r) (number_bytes_of r.width (last ys) wide) ∙ mod-eq_of_lt below
 
-  last_written : (text new : List ℕ) (y : ℕ) → text ≡ bytes r.width ys ++ ts → new ≡ bytes_of (length (take (n - a) (drop a text))) y → y ≡ f (last ys) → put_mid a (n - a) text new ≡ bytes r.width (on_last f ys) ++ ts
-  last_written text new y is made image =
+  last_written : (f : ℕ → ℕ) (new : List ℕ) (y : ℕ) → new ≡ bytes_of (length (take (n - a) (drop a text))) y → y ≡ f (last ys) → put_mid a (n - a) text new ≡ bytes r.width (on_last f ys)
+  last_written f new y made image =
       let w = r.width in
-      let long = ap length (part text is) ∙ length_bytes_of w (last ys) in
-      let ahead : take a text ≡ bytes w (front ys) = ap (take a) (is ∙ ap (λ l. l ++ ts) (bytes_last w ys some) ∙ append_assoc (bytes w (front ys)) (bytes_of w (last ys)) ts) ∙ take_at (bytes w (front ys)) (bytes_of w (last ys) ++ ts) a a_is in
+      let long = ap length part ∙ length_bytes_of w (last ys) in
+      let ahead : take a text ≡ bytes w (front ys) = ap (take a) cut ∙ take_at (bytes w (front ys)) (bytes_of w (last ys)) a a_is in
       let new_is : new ≡ bytes_of w (f (last ys)) = made ∙ (λ t. bytes_of (long t) (image t)) in
-      let behind : drop (n - a) (drop a text) ≡ ts = (λ t. drop (count t) (piece text is t)) ∙ drop_at (bytes_of w (last ys)) ts w (length_bytes_of w (last ys)) in
-      (λ t. ahead t ++ (new_is t ++ behind t)) ∙ sym (append_assoc (bytes w (front ys)) (bytes_of w (f (last ys))) ts) ∙ ap (λ l. l ++ ts) (sym (bytes_on_last w f ys some))
+      let behind : drop (n - a) (drop a text) ≡ [] = drop_all (n - a) (drop a text) enough in
+      (λ t. ahead t ++ (new_is t ++ behind t)) ∙ ap (λ l. bytes w (front ys) ++ l) (append-nil (bytes_of w (f (last ys)))) ∙ sym (bytes_on_last w f ys some)
 
-  length_whole : length (bytes r.width (on_last f ys)) ≡ n
-  length_whole = ap length (bytes_on_last r.width f ys some) ∙ length-append (bytes r.width (front ys)) (bytes_of r.width (f (last ys))) ∙ ap₂ ◌+◌ a_is (length_bytes_of r.width (f (last ys))) ∙ start
+-- ---- a sector
 
-  rest_read : (text : List ℕ) → text ≡ bytes r.width (on_last f ys) ++ ts → drop n text ≡ ts
-  rest_read text is = ap (drop n) is ∙ drop_at (bytes r.width (on_last f ys)) ts n length_whole
+tail_some : (r : RingKind) (f : ℕ → ℕ) (us ts : List ℕ) → 0 < length ts → crypted_tail_of r f us ts ≡ record { blocks = on_last f us; tail = mixed r (last us) ts }
+tail_some r f us [] h = absurd (omega arith)
+tail_some r f us (t ∷ ts) h = refl
 
-  rest_written : (text new : List ℕ) (k : ℕ) → text ≡ bytes r.width (on_last f ys) ++ ts → length ts ≤ k → put_mid n k text new ≡ bytes r.width (on_last f ys) ++ new
-  rest_written text new k is fits =
-      let ahead = ap (take n) is ∙ take_at (bytes r.width (on_last f ys)) ts n length_whole in
-      let none = ap (drop k) (rest_read text is) ∙ drop_all k ts fits in
-      (λ t. ahead t ++ (new ++ none t)) ∙ ap (λ l. bytes r.width (on_last f ys) ++ l) (append-nil new)
+mixed_zero : (r : RingKind) (ts : List ℕ) → mixed r 0 ts ≡ ts
+mixed_zero r ts =
+    placewise_same (mixed_at r 0) 0 ts
+    (λ i b _ _. elim (dec_lt i r.width) [
+      | yes l ↦ ap (bit_xor b) (bytes_of_at r.width 0 i l ∙ ap (λ (x : ℕ). x % 256) (zero-div (256 ^ (r.width - 1 - i)))) ∙ xor_zero_r b
+      | no m ↦ mixed_past r 0 i b (omega arith)
+    ])
 
-crypted_some : (r : RingKind) (f : ℕ → ℕ) (xs ts : List ℕ) → 0 < length ts → crypted_with r f xs ts ≡ record { blocks = on_last f (map f xs); tail = mixed r (last (map f xs)) ts }
-crypted_some r f xs [] h = absurd (omega arith)
-crypted_some r f xs (t ∷ ts) h = refl
+no_blocks : (r : RingKind) (f : ℕ → ℕ) (ts : List ℕ) → crypted_tail_of r f [] ts ≡ record { blocks = []; tail = ts }
+unfolding last on_last
+no_blocks r f [] = refl
+no_blocks r f (t ∷ ts) = λ j. record { blocks = []; tail = mixed_zero r (t ∷ ts) j }
 
-module _ (r : RingKind) (f : ℕ → ℕ) (bs : List ℕ) where
+module _ (r : RingKind) (f : ℕ → ℕ) (bs : List ℕ) (under : AllBelowBase 256 bs) where
   -- without a tail
-  pub crypted_else : (v : ℕ) → v ≡ r.width → length bs ≤ length bs / v * v → rowwise r.width (mapped f) bs ≡ rowwise r.width (crypted r f) bs
-  crypted_else v e le =
+  pub tail_stays : (v : ℕ) → v ≡ r.width → length bs ≤ length bs / v * v → bs ≡ rowwise r.width (crypted_tail r f) bs
+  tail_stays v e le =
       let w = r.width in
       let n = length bs / w * w in
-      let full : length bs ≤ n = omega (arith, ap (λ w. length bs / w * w) e) in
-      let none = drop_all n bs full in
+      let none = drop_all n bs (omega (arith, ap (λ w. length bs / w * w) e)) in
       let xs = first_blocks w (length bs / w) bs in
-      ap (λ ts. joined w (record { blocks = map f xs; tail = ts })) none ∙ sym (ap (λ ts. joined w (crypted_with r f xs ts)) none)
+      sym (joined_parted r bs under)
+      ∙ ap (λ ts. joined w (record { blocks = xs; tail = ts })) none
+      ∙ sym (ap (λ ts. joined w (crypted_tail_of r f xs ts)) none)
+
+  -- without a block
+  pub blocks_stay : (v : ℕ) → v ≡ r.width → length bs / v * v ≡ 0 → bs ≡ rowwise r.width (crypted_tail r f) bs
+  blocks_stay v e zero_is =
+      let w = r.width in
+      let m = length bs / w in
+      let ts = drop (m * w) bs in
+      let one : m * 1 ≤ m * w = mul-le-mul_left m r.some in
+      let m_is : m ≡ 0 = omega (arith, ap (λ w. length bs / w * w) e) in
+      let none : first_blocks w m bs ≡ [] = ap (λ i. first_blocks w i bs) m_is ∙ blocks_none w bs in
+      sym (joined_parted r bs under)
+      ∙ ap (λ xs. joined w (record { blocks = xs; tail = ts })) none
+      ∙ sym (ap (λ xs. joined w (crypted_tail_of r f xs ts)) none ∙ ap (joined w) (no_blocks r f ts))
 
   abbrev pub ThenT : ℕ → Type 0
   ThenT v =
       let n = length bs / v * v in
-      (text out tail : List ℕ) (u y : ℕ) → text ≡ rowwise r.width (mapped f) bs → n < length text
-      → u ≡ number_from_digits 256 (take (n - (n - v)) (drop (n - v) text)) % size r
+      let a = n - v in
+      (text rest out tail : List ℕ) (u y : ℕ) → text ≡ take n bs → rest ≡ drop n bs → 0 < length text → 0 < length rest
+      → u ≡ number_from_digits 256 (take (length text - a) (drop a text)) % size r
       → y ≡ f u
-      → out ≡ bytes_of (length (take (n - (n - v)) (drop (n - v) text))) y
-      → tail ≡ mixed r u (take (length (put_mid (n - v) (n - (n - v)) text out) - n) (drop n (put_mid (n - v) (n - (n - v)) text out)))
-      → put_mid n (length (put_mid (n - v) (n - (n - v)) text out) - n) (put_mid (n - v) (n - (n - v)) text out) tail ≡ rowwise r.width (crypted r f) bs
+      → out ≡ bytes_of (length (take (length text - a) (drop a text))) y
+      → tail ≡ mixed r u rest
+      → put_mid a (length text - a) text out ++ tail ≡ rowwise r.width (crypted_tail r f) bs
 
-  then_here : ((x : ℕ) → x < size r → f x < size r) → AllBelowBase 256 bs → r.width ≤ length bs → ThenT r.width
-  then_here closed under big text out tail u y is more read image made mix =
+  then_here : ThenT r.width
+  then_here text rest out tail u y text_is rest_is some tailed read image made mix =
       let w = r.width in
       let m = length bs / w in
       let n = m * w in
-      let a = n - w in
-      let xs = first_blocks w m bs in
-      let ys = map f xs in
-      let ts = drop n bs in
-      let count : length ys ≡ m = length-map xs f ∙ length_blocks w m bs in
-      let one : 1 ≤ m = le-div 1 (length bs) w r.some (omega arith) in
-      let some : 0 < length ys = omega arith in
-      let end : n ≡ length ys * w = ap (λ i. i * w) (sym count) in
-      let room : w ≤ n = omega (arith, mul-le-mul_right w one) in
-      let start : a + w ≡ n = omega arith in
-      let low : AllBelowBase (size r) ys = under_map (size r) f closed xs (blocks_below w m bs under) in
-      let u_is : u ≡ last ys = read ∙ last_read r f ys ts a n low some end start text is in
-      let text2 = put_mid a (n - a) text out in
-      let is2 : text2 ≡ bytes w (on_last f ys) ++ ts = last_written r f ys ts a n low some end start text out y is made (image ∙ ap f u_is) in
-      let long : length text ≡ n + length ts = ap length is ∙ length-append (bytes w ys) ts ∙ ap (λ i. i + length ts) (length_bytes w ys ∙ sym end) in
-      let long2 : length text2 ≡ n + length ts = ap length is2 ∙ length-append (bytes w (on_last f ys)) ts ∙ ap (λ i. i + length ts) (length_whole r f ys ts a n low some end start) in
-      let tailed : 0 < length ts = omega arith in
-      let fits : length ts ≤ length text2 - n = omega arith in
-      let rest : take (length text2 - n) (drop n text2) ≡ ts = take_rest text2 n ∙ rest_read r f ys ts a n low some end start text2 is2 in
-      let tail_is : tail ≡ mixed r (last ys) ts = mix ∙ ap₂ (mixed r) u_is rest in
-      rest_written r f ys ts a n low some end start text2 tail (length text2 - n) is2 fits
-      ∙ ap (λ l. bytes w (on_last f ys) ++ l) tail_is
-      ∙ ap (joined w) (sym (crypted_some r f xs ts tailed))
+      let ys = first_blocks w m bs in
+      let fits : n ≤ length bs = omega (arith, div-add-mod' (length bs) w) in
+      let is : text ≡ bytes w ys = text_is ∙ sym (bytes_blocks w m bs under fits) in
+      let count = length_blocks w m bs in
+      let end : length text ≡ length ys * w = ap length is ∙ length_bytes w ys in
+      let end_n : length text ≡ n = end ∙ ap (λ i. i * w) count in
+      let any : 0 < length ys = some_of (length ys) w (subst (λ i. 0 < i) end some) in
+      let room : 1 * w ≤ length ys * w = mul-le-mul_right w any in
+      let start : n - w + w ≡ length text = omega arith in
+      let low = blocks_below w m bs under in
+      let u_is : u ≡ last ys = read ∙ last_read r ys (n - w) (length text) any end start text is low in
+      let blocks = last_written r ys (n - w) (length text) any end start text is f out y made (image ∙ ap f u_is) in
+      (λ t. blocks t ++ (mix ∙ ap₂ (mixed r) u_is rest_is) t)
+      ∙ ap (joined w) (sym (tail_some r f ys (drop n bs) (subst (λ l. 0 < length l) rest_is tailed)))
 
-  -- with a tail, in code that holds the width as v
-  pub crypted_then : ((x : ℕ) → x < size r → f x < size r) → AllBelowBase 256 bs → r.width ≤ length bs → (v : ℕ) → v ≡ r.width → ThenT v
-  crypted_then closed under big v e = subst ThenT (sym e) (then_here closed under big)
+  -- with both, in code that holds the width as v
+  pub crypted_then : (v : ℕ) → v ≡ r.width → ThenT v
+  crypted_then v e = subst ThenT (sym e) then_here
+
+-- the last of some whole blocks begins within them
+pub last_within : (n v : ℕ) → 0 < n / v * v → v ≤ n / v * v
+last_within n v some = omega (arith, mul-le-mul_right v (some_of (n / v) v some))

@@ -1,3 +1,5 @@
+mod Bytes
 mod Chains
 mod Ends
 mod Hashes
+mod Steps

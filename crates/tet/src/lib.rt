@@ -6,16 +6,17 @@
 
 #![tactic(auto)]
 
-ghost use Rattle.std.specs.Prelude.{◌≡◌, ℕ, None, refl};
+ghost use Rattle.std.specs.Prelude.{◌≡◌, ℕ, Some, None, IfOk, refl};
+ghost use Rattle.std.specs.Result.{result_err};
+ghost use Rattle.std.proofs.Props.{props};
 ghost use Rattle.modes.specs.Faults.{answered};
 ghost use Rattle.modes.specs.Mode.{keyed_after, ciphered};
 ghost use Rattle.tet_theory.specs.State.{refusal, obstacle};
-ghost use Rattle.tet_theory.specs.Tet.{encipher, decipher};
-ghost use Rattle.tet_theory.proofs.States.{held_fits};
-ghost use Rattle.tet.specs.Kind.{kind_over};
-ghost use Rattle.tet.specs.State.{tet_state};
+ghost use Rattle.tet_theory.specs.Tet.{hash_key, encipher, decipher};
+ghost use Rattle.tet.specs.Keys.{key_of};
+ghost use Rattle.tet.specs.Kind.{kind_over, sector_tweak};
 
-use crate::hash::hash_key;
+use crate::hash::{Hash, hash_key};
 use crate::stages::*;
 use crate::tweaks::tweak_block;
 use ciphers::BlockCipher;
@@ -29,107 +30,115 @@ mod tweaks;
 /// The longest tweak, in bytes.
 const LONGEST_TWEAK: usize = 4096;
 
-/// TET with two keyed ciphers and a sector size. It is blank where these have no hash key.
+/// TET under a key for one sector size, or blank.
 #[derive(Drop)]
-pub struct Tet<C> {
+pub struct Tet<C: BlockCipher> {
+    keyed: Option<Keyed<C>>,
+}
+
+/// Two keyed ciphers and a sector size, with their hash key.
+#[derive(Drop)]
+struct Keyed<C: BlockCipher> {
     first: C,
     second: C,
     size: usize,
+    hash: Hash<C::Ring>,
+    ghost hash_of_key: { hash_key C.BlockCipher.kind.ring (C.BlockCipher.kind.encipher (C.BlockCipher.held first)) size ≡ Some (key_of C.Ring.BlockRing.value hash) } by { Prim.hlevel props },
+}
+
+/// The tweak of a sector number: the number in 8 bytes, the first the highest.
+fn tweak_of(number: u32) -> [u8; 8]
+    ensures { result ≡ sector_tweak number }
+{
+    u64::from(number).to_be_bytes()
 }
 
 impl<C: BlockCipher> Tet<C> {
+    ghost use Rattle.tet.specs.State.{tet_state};
+
     /// A blank mode.
     pub fn new() -> Tet<C>
-        ensures mode_is_blank { tet_state C.BlockCipher.kind C.BlockCipher.held result ≡ None }
+        ensures mode_is_blank { tet_state result ≡ None }
     {
-        Tet {
-            first: C::new(),
-            second: C::new(),
-            size: 0,
-        }
+        Tet { keyed: None }
     }
 
     /// Holds the key, K1 then K2, for sectors of `size` bytes, or refuses them and stays as it was.
     pub fn key(&mut self, key: &[u8], size: usize) -> Result<(), ModeFault>
         ensures answer { result ≡ answered (refusal C.BlockCipher.kind key.now size) }
-        ensures pair_is_held { tet_state C.BlockCipher.kind C.BlockCipher.held self.new ≡ keyed_after (refusal C.BlockCipher.kind key.now size) key.now size (tet_state C.BlockCipher.kind C.BlockCipher.held self.old) }
+        ensures pair_is_held { tet_state self.new ≡ keyed_after (refusal C.BlockCipher.kind key.now size) key.now size (tet_state self.old) }
     {
         let half = key.len() / 2;
         let mut first = C::new();
-        first.set_key(&key[0..half])?;
+        first.set_key(&key[..half])?;
         let mut second = C::new();
         second.set_key(&key[half..])?;
-        if size < C::Ring::width() || C::Ring::longest() < size {
-            return Err(ModeFault::WrongSize);
-        }
-        let Some(_) = hash_key(&first, size) else {
-            return Err(ModeFault::NoInverse);
-        };
-        self.first = first;
-        self.second = second;
-        self.size = size;
+        let hash = hash_key(&first, size)?;
+        self.keyed = Some(Keyed {
+            first,
+            second,
+            size,
+            hash,
+        });
         Ok(())
     }
 
-    /// Enciphers a sector in place under a tweak of up to 4,096 bytes.
-    pub fn encipher_with_tweak(&self, tweak: &[u8], buffer: &mut [u8]) -> Result<(), ModeFault>
-        ensures answer { result ≡ answered (obstacle (tet_state C.BlockCipher.kind C.BlockCipher.held self.now) tweak.now buffer.old) }
-        ensures buffer_is_enciphered { buffer.new ≡ ciphered (λ key size. encipher C.BlockCipher.kind key size tweak.now) (tet_state C.BlockCipher.kind C.BlockCipher.held self.now) (obstacle (tet_state C.BlockCipher.kind C.BlockCipher.held self.now) tweak.now buffer.old) buffer.old }
+    /// The key, for a buffer of its size and a tweak that is not too long.
+    fn admit(&self, tweak: &[u8], buffer: &[u8]) -> Result<&Keyed<C>, ModeFault>
+        ensures fault { result_err result ≡ obstacle (tet_state self.now) tweak.now buffer.now }
+        ensures key { IfOk result (λ k. self.now.keyed ≡ Some k.now) }
     {
-        let Some(hash) = hash_key(&self.first, self.size) else {
-            return Err(ModeFault::WrongLength);
-        };
-        if buffer.len() != self.size {
+        let keyed = self.keyed.as_ref().ok_or(ModeFault::WrongLength)?;
+        if buffer.len() != keyed.size {
             return Err(ModeFault::WrongLength);
         }
         if LONGEST_TWEAK < tweak.len() {
             return Err(ModeFault::WrongTweak);
         }
-        let beta = tweak_block(&self.first, self.size, tweak);
-        encipher_sector(&self.second, hash, beta, buffer);
+        Ok(keyed)
+    }
+
+    /// Enciphers a sector in place under a tweak of up to 4,096 bytes.
+    pub fn encipher_with_tweak(&self, tweak: &[u8], buffer: &mut [u8]) -> Result<(), ModeFault>
+        ensures answer { result ≡ answered (obstacle (tet_state self.now) tweak.now buffer.old) }
+        ensures buffer_is_enciphered { buffer.new ≡ ciphered (λ key size. encipher C.BlockCipher.kind key size tweak.now) (tet_state self.now) (obstacle (tet_state self.now) tweak.now buffer.old) buffer.old }
+    {
+        let keyed = self.admit(tweak, buffer)?;
+        let beta = tweak_block(&keyed.first, keyed.size, tweak);
+        encipher_sector(&keyed.second, keyed.hash, beta, buffer);
         Ok(())
     }
 
     /// Deciphers a sector in place under a tweak of up to 4,096 bytes.
     pub fn decipher_with_tweak(&self, tweak: &[u8], buffer: &mut [u8]) -> Result<(), ModeFault>
-        ensures answer { result ≡ answered (obstacle (tet_state C.BlockCipher.kind C.BlockCipher.held self.now) tweak.now buffer.old) }
-        ensures buffer_is_deciphered { buffer.new ≡ ciphered (λ key size. decipher C.BlockCipher.kind key size tweak.now) (tet_state C.BlockCipher.kind C.BlockCipher.held self.now) (obstacle (tet_state C.BlockCipher.kind C.BlockCipher.held self.now) tweak.now buffer.old) buffer.old }
+        ensures answer { result ≡ answered (obstacle (tet_state self.now) tweak.now buffer.old) }
+        ensures buffer_is_deciphered { buffer.new ≡ ciphered (λ key size. decipher C.BlockCipher.kind key size tweak.now) (tet_state self.now) (obstacle (tet_state self.now) tweak.now buffer.old) buffer.old }
     {
-        let Some(hash) = hash_key(&self.first, self.size) else {
-            return Err(ModeFault::WrongLength);
-        };
-        if buffer.len() != self.size {
-            return Err(ModeFault::WrongLength);
-        }
-        if LONGEST_TWEAK < tweak.len() {
-            return Err(ModeFault::WrongTweak);
-        }
-        let beta = tweak_block(&self.first, self.size, tweak);
-        decipher_sector(&self.second, hash, beta, buffer);
+        let keyed = self.admit(tweak, buffer)?;
+        let beta = tweak_block(&keyed.first, keyed.size, tweak);
+        decipher_sector(&keyed.second, keyed.hash, beta, buffer);
         Ok(())
     }
 }
 
 impl<C: BlockCipher> WideMode for Tet<C> {
+    ghost use Rattle.tet.specs.State.{tet_state, state_fits};
+
     ghost kind = { kind_over C.BlockCipher.kind };
 
-    ghost state = { λ m. tet_state C.BlockCipher.kind C.BlockCipher.held m };
+    ghost state = { tet_state };
 
-    ghost fitting = { λ m. held_fits C.BlockCipher.kind (C.BlockCipher.held m.first) (C.BlockCipher.held m.second) (C.BlockCipher.fitting m.first) (C.BlockCipher.fitting m.second) m.size (kind_over C.BlockCipher.kind) (λ key n. refl) };
+    ghost fitting = { state_fits };
 
     fn key(&mut self, key: &[u8], size: usize) -> Result<(), ModeFault> {
         Tet::key(self, key, size)
     }
 
     fn encipher(&self, number: u32, buffer: &mut [u8]) -> Result<(), ModeFault> {
-        let mut tweak = [0; 8];
-        u64::from(number).to_bytes(&mut tweak);
-        self.encipher_with_tweak(&tweak, buffer)
+        self.encipher_with_tweak(&tweak_of(number), buffer)
     }
 
     fn decipher(&self, number: u32, buffer: &mut [u8]) -> Result<(), ModeFault> {
-        let mut tweak = [0; 8];
-        u64::from(number).to_bytes(&mut tweak);
-        self.decipher_with_tweak(&tweak, buffer)
+        self.decipher_with_tweak(&tweak_of(number), buffer)
     }
 }

@@ -1,9 +1,9 @@
 //! The stages of a sector, in place.
 
-ghost use Rattle.std.specs.Prelude.{◌≡◌, ◌≤◌, length};
+ghost use Rattle.std.specs.Prelude.{◌≡◌, ℕ};
 ghost use Rattle.passes.specs.Sector.{rowwise};
 ghost use Rattle.tet.specs.Keys.{key_of};
-ghost use Rattle.tet_theory.specs.Tet.{blended, unblended, crypted, enciphered, deciphered};
+ghost use Rattle.tet_theory.specs.Tet.{blended, unblended, crypted_tail, enciphered, deciphered};
 
 use crate::hash::Hash;
 use ciphers::BlockCipher;
@@ -30,55 +30,40 @@ fn unblend<R: BlockRing>(hash: Hash<R>, sector: &mut [u8])
     add_to_each(sum, sector);
 }
 
-/// B_i = E(A_i); with a tail, U = E(A_m), B_m = E(U), and U's first bytes are added to the tail.
-fn encipher_blocks<C: BlockCipher>(cipher: &C, sector: &mut [u8])
-    requires { C.Ring.BlockRing.ring.width ≤ length sector.old }
-    ensures { sector.new ≡ rowwise C.Ring.BlockRing.ring.width (crypted C.Ring.BlockRing.ring (C.BlockCipher.kind.encipher (C.BlockCipher.held cipher.now))) sector.old }
+/// With a tail, f(U) takes the place of the last block, U, and U's first bytes are added to the tail.
+fn crypt_tail<R: BlockRing, F: FnOnce(R) -> R>(sector: &mut [u8], f: F)
+    requires { F.IsAlwaysCallable f }
+    ensures { (g : ℕ → ℕ) → ((x y : R) → F.post f x y → R.value y ≡ g (R.value x)) → sector.new ≡ rowwise R.ring.width (crypted_tail R.ring g) sector.old }
 {
-    let w = C::Ring::width();
+    let w = R::width();
     let whole = sector.len() / w * w;
-    encipher_each(cipher, sector);
-    if whole < sector.len() {
-        let part = &mut sector[whole - w..whole];
-        let middle = C::Ring::from_bytes(part);
-        let mut block = middle;
-        cipher.encipher(&mut block);
-        block.to_bytes(part);
-        mix(middle, &mut sector[whole..]);
+    let (blocks, tail) = sector.split_at_mut(whole);
+    if blocks.is_empty() || tail.is_empty() {
+        return;
     }
-}
-
-/// A_i = D(B_i); with a tail, U = D(B_m), A_m = D(U), and U's first bytes are added to the tail.
-fn decipher_blocks<C: BlockCipher>(cipher: &C, sector: &mut [u8])
-    requires { C.Ring.BlockRing.ring.width ≤ length sector.old }
-    ensures { sector.new ≡ rowwise C.Ring.BlockRing.ring.width (crypted C.Ring.BlockRing.ring (C.BlockCipher.kind.decipher (C.BlockCipher.held cipher.now))) sector.old }
-{
-    let w = C::Ring::width();
-    let whole = sector.len() / w * w;
-    decipher_each(cipher, sector);
-    if whole < sector.len() {
-        let part = &mut sector[whole - w..whole];
-        let middle = C::Ring::from_bytes(part);
-        let mut block = middle;
-        cipher.decipher(&mut block);
-        block.to_bytes(part);
-        mix(middle, &mut sector[whole..]);
-    }
+    let last = &mut blocks[whole - w..];
+    let middle = R::from_bytes(last);
+    f(middle).to_bytes(last);
+    mix(middle, tail);
 }
 
 /// From P to C.
+// Stays: what the two directions do not share would be three closures.
 pub(crate) fn encipher_sector<C: BlockCipher>(
     cipher: &C,
     hash: Hash<C::Ring>,
     beta: C::Ring,
     sector: &mut [u8],
 )
-    requires { C.Ring.BlockRing.ring.width ≤ length sector.old }
     ensures { sector.new ≡ rowwise C.Ring.BlockRing.ring.width (enciphered C.Ring.BlockRing.ring (C.BlockCipher.kind.encipher (C.BlockCipher.held cipher.now)) (key_of C.Ring.BlockRing.value hash) (C.Ring.BlockRing.value beta)) sector.old }
 {
     blend(hash, sector);
     whiten(beta, sector);
-    encipher_blocks(cipher, sector);
+    encipher_each(cipher, sector);
+    crypt_tail(sector, |mut block: C::Ring| {
+        cipher.encipher(&mut block);
+        block
+    });
     whiten(beta, sector);
     blend(hash, sector);
 }
@@ -90,12 +75,15 @@ pub(crate) fn decipher_sector<C: BlockCipher>(
     beta: C::Ring,
     sector: &mut [u8],
 )
-    requires { C.Ring.BlockRing.ring.width ≤ length sector.old }
     ensures { sector.new ≡ rowwise C.Ring.BlockRing.ring.width (deciphered C.Ring.BlockRing.ring (C.BlockCipher.kind.decipher (C.BlockCipher.held cipher.now)) (key_of C.Ring.BlockRing.value hash) (C.Ring.BlockRing.value beta)) sector.old }
 {
     unblend(hash, sector);
     whiten(beta, sector);
-    decipher_blocks(cipher, sector);
+    decipher_each(cipher, sector);
+    crypt_tail(sector, |mut block: C::Ring| {
+        cipher.decipher(&mut block);
+        block
+    });
     whiten(beta, sector);
     unblend(hash, sector);
 }

@@ -6,7 +6,7 @@ use Rattle.rings.specs.Ring.{RingKind, size}
 use Rattle.passes.specs.Passes.{placewise, mixed}
 use Rattle.passes.specs.Sector.{Sector}
 use Rattle.passes.proofs.Stages.{Sound, under_map, map_back, length_mixed, under_mixed, mixed_back}
-use Rattle.tet_theory.specs.Tet.{last, on_last, crypted_with, crypted}
+use Rattle.tet_theory.specs.Tet.{last, on_last, crypted_tail_of, crypted}
 
 under_on_last : (b : ℕ) (f : ℕ → ℕ) → ((x : ℕ) → x < b → f x < b) → (xs : List ℕ) → AllBelowBase b xs → AllBelowBase b (on_last f xs)
 unfolding on_last
@@ -49,7 +49,7 @@ module _ (b : ℕ) (f g : ℕ → ℕ) (low : (x : ℕ) → x < b → f x < b) (
       ∙ (λ t. undo x h.0 t ∷ on_last_back (y ∷ ys) h.1 t)
 
 module _ (r : RingKind) (f : ℕ → ℕ) (low : (x : ℕ) → x < size r → f x < size r) where
-  sound_with : (m t : ℕ) (xs ts : List ℕ) → Sound r m t (record { blocks = xs; tail = ts }) → Sound r m t (crypted_with r f xs ts)
+  sound_with : (m t : ℕ) (xs ts : List ℕ) → Sound r m t (record { blocks = xs; tail = ts }) → Sound r m t (crypted_tail_of r f (map f xs) ts)
   sound_with m t xs [] ok = record { count = length-map xs f ∙ ok.count; rest = ok.rest; low = under_map (size r) f low xs ok.low; small = tt }
   sound_with m t xs (b ∷ bs) ok =
       let u = last (map f xs) in
@@ -64,7 +64,7 @@ module _ (r : RingKind) (f : ℕ → ℕ) (low : (x : ℕ) → x < size r → f 
   crypted_sound m t s ok = sound_with m t s.blocks s.tail ok
 
   module _ (g : ℕ → ℕ) (undo : (x : ℕ) → x < size r → g (f x) ≡ x) where
-    back_with : (xs ts : List ℕ) → AllBelowBase (size r) xs → crypted r g (crypted_with r f xs ts) ≡ record { blocks = xs; tail = ts }
+    back_with : (xs ts : List ℕ) → AllBelowBase (size r) xs → crypted r g (crypted_tail_of r f (map f xs) ts) ≡ record { blocks = xs; tail = ts }
     unfolding placewise
     back_with xs [] h = λ t. record { blocks = map_back (size r) f g undo xs h t; tail = [] }
     back_with xs (b ∷ bs) h =

@@ -1,11 +1,11 @@
 -- TET over any block ring and any cipher. Blocks are numbers, + is bit_xor, α is the block 2, and H is `hash_sum`.
-use Rattle.std.specs.Prelude.{ℕ, ◌-◌, ◌*◌, ◌/◌, Bool, cond, ◌&&◌, List, [], ◌∷◌, map, length, take, drop, Some, None, Option, ◌==◌, bit_xor, nat_le}
+use Rattle.std.specs.Prelude.{ℕ, ◌-◌, ◌*◌, ◌/◌, Bool, cond, ◌&&◌, List, [], ◌∷◌, length, take, drop, Some, None, Option, ◌==◌, bit_xor, nat_le}
 use Rattle.std.specs.Int.Digits.{number_from_digits}
 use Rattle.rings.specs.Blocks.{first_blocks}
 use Rattle.rings.specs.Ring.{RingKind, times}
 use Rattle.rings.specs.Sums.{hash_sum, sigma}
 use Rattle.ciphers.specs.Cipher.{CipherKind, fits}
-use Rattle.passes.specs.Passes.{added, whitened, pad, tail_block, mixed}
+use Rattle.passes.specs.Passes.{added, whitened, mapped, pad, tail_block, mixed}
 use Rattle.passes.specs.Sector.{Sector, rowwise}
 
 -- ---- the hash key of a sector size
@@ -79,13 +79,17 @@ module _ (r : RingKind) where
   abbrev pub unblended : HashKey → Sector → Sector
   unblended h X = added (bit_xor (hash_sum r h.τ X.blocks) (times r h.σ (tail_block r X.tail))) X
 
-  -- f(X_i) for each block; with a tail, f(U) for the last, where U = f(X_m), and U's first bytes added to the tail
-  abbrev pub crypted_with : (ℕ → ℕ) → List ℕ → List ℕ → Sector
-  crypted_with f Xs [] = record { blocks = map f Xs; tail = [] }
-  crypted_with f Xs (y ∷ ys) = record { blocks = on_last f (map f Xs); tail = mixed r (last (map f Xs)) (y ∷ ys) }
+  -- with a tail, f(U) for the last block U, and U's first bytes added to the tail
+  abbrev pub crypted_tail_of : (ℕ → ℕ) → List ℕ → List ℕ → Sector
+  crypted_tail_of f Us [] = record { blocks = Us; tail = [] }
+  crypted_tail_of f Us (y ∷ ys) = record { blocks = on_last f Us; tail = mixed r (last Us) (y ∷ ys) }
 
+  abbrev pub crypted_tail : (ℕ → ℕ) → Sector → Sector
+  crypted_tail f X = crypted_tail_of f X.blocks X.tail
+
+  -- f(X_i) for each block, and then the tail
   abbrev pub crypted : (ℕ → ℕ) → Sector → Sector
-  crypted f X = crypted_with f X.blocks X.tail
+  crypted f X = crypted_tail f (mapped f X)
 
   -- with E = E_K2, from P to C
   abbrev pub enciphered : (ℕ → ℕ) → HashKey → ℕ → Sector → Sector

@@ -45,7 +45,7 @@ pub trait TweakMode: Drop {
 impl<C: BlockCipher> TweakMode for Tet<C> {
     ghost kind = { tet_over C.BlockCipher.kind };
 
-    ghost state = { λ m. tet_state C.BlockCipher.kind C.BlockCipher.held m };
+    ghost state = { tet_state };
 
     fn blank() -> Tet<C> {
         Tet::new()
@@ -67,7 +67,7 @@ impl<C: BlockCipher> TweakMode for Tet<C> {
 impl<C: BlockCipher> TweakMode for Heh<C> {
     ghost kind = { heh_over C.BlockCipher.kind };
 
-    ghost state = { λ m. heh_state C.BlockCipher.kind C.BlockCipher.held m };
+    ghost state = { heh_state };
 
     fn blank() -> Heh<C> {
         Heh::new()

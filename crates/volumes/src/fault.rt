@@ -1,8 +1,11 @@
-ghost use Rattle.std.specs.Prelude.{◌≡◌};
+ghost use Rattle.std.specs.Prelude.{◌≡◌, Some, decimal};
 ghost use Rattle.volumes.specs.Faults.{refusal_number};
 ghost use Rattle.volumes.specs.declared.fault.Refusal.TheVariants.{Mode as OfMode};
 
 use modes::ModeFault;
+use std::error::Error;
+use std::fmt;
+use std::fmt::Display;
 
 /// The calls of a volume that are refused by name.
 #[derive(Clone, Copy, PartialEq, Eq, Debug)]
@@ -52,9 +55,31 @@ impl From<ModeFault> for Refusal {
     }
 }
 
+/// Its number.
+impl Display for Refusal {
+    ghost output = { λ refusal. Some (decimal (refusal_number refusal)) };
+
+    fn fmt<W: fmt::Write>(&self, f: &mut fmt::Formatter<W>) -> fmt::Result {
+        self.number().fmt(f)
+    }
+}
+
+impl Error for Refusal {}
+
 /// A refused open, begin or step.
 #[derive(Clone, Copy, PartialEq, Debug)]
 pub struct VolumeFault {
     pub call: CallName,
     pub refusal: Refusal,
 }
+
+/// The number of its refusal.
+impl Display for VolumeFault {
+    ghost output = { λ fault. Some (decimal (refusal_number fault.refusal)) };
+
+    fn fmt<W: fmt::Write>(&self, f: &mut fmt::Formatter<W>) -> fmt::Result {
+        self.refusal.fmt(f)
+    }
+}
+
+impl Error for VolumeFault {}

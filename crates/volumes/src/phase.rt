@@ -28,8 +28,7 @@ impl Phase {
         ensures { result ≡ phase_mark self }
     {
         match self {
-            Phase::Closed => 0,
-            Phase::Open => 0,
+            Phase::Closed | Phase::Open => 0,
             Phase::Sweeping(mark) => mark,
         }
     }

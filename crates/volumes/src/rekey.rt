@@ -23,9 +23,7 @@ pub fn rekey<D: SectorDevice, M: WideMode>(device: &mut D, current: &M, next: &M
     let size = device.size() as usize;
     let mut scratch = [0; LARGEST];
     let bytes = &mut scratch[0..size];
-    if device.read(sector, bytes).is_ok() {
-        if recipher(current, next, sector, bytes).is_ok() {
-            let _ = device.write(sector, bytes);
-        }
+    if device.read(sector, bytes).is_ok() && recipher(current, next, sector, bytes).is_ok() {
+        let _ = device.write(sector, bytes);
     }
 }

@@ -6,7 +6,7 @@ ghost use Rattle.volumes.specs.Volume.{view, serving, open_check, volume_of, aft
 use crate::phase::Phase;
 use crate::serve::{LARGEST, decipher, encipher};
 use crate::volume::Volume;
-use devices::call::{check, pass_up};
+use devices::call::pass_up;
 use devices::device::SectorDevice;
 use devices::fault::{Fault, Reason};
 use modes::WideMode;
@@ -17,13 +17,8 @@ impl<D: SectorDevice, M: WideMode> Volume<D, M> {
         ensures { result ≡ open_check self.now.phase sector }
     {
         match self.phase {
-            Phase::Closed => Err(Fault {
-                reason: Reason::Closed,
-                sector,
-                depth: 0,
-            }),
-            Phase::Open => Ok(()),
-            Phase::Sweeping(_) => Ok(()),
+            Phase::Closed => Err(Fault::new(Reason::Closed, sector)),
+            Phase::Open | Phase::Sweeping(_) => Ok(()),
         }
     }
 
@@ -57,7 +52,7 @@ impl<D: SectorDevice, M: WideMode> SectorDevice for Volume<D, M> {
         ensures buffer_is_filled { buffer.new ≡ after_read (volume_of M.WideMode.kind (view D.SectorDevice.meaning M.WideMode.state self.old)) sector buffer.old }
         ensures volume_stays { view D.SectorDevice.meaning M.WideMode.state self.new ≡ view D.SectorDevice.meaning M.WideMode.state self.old }
     {
-        check(self.count(), self.size(), sector, buffer.len())?;
+        self.admit(sector, buffer.len())?;
         self.check_open(sector)?;
         let mut scratch = [0; LARGEST];
         let bytes = &mut scratch[0..buffer.len()];
@@ -73,7 +68,7 @@ impl<D: SectorDevice, M: WideMode> SectorDevice for Volume<D, M> {
         ensures sector_is_written { volume_of M.WideMode.kind (view D.SectorDevice.meaning M.WideMode.state self.new) ≡ after_write (volume_of M.WideMode.kind (view D.SectorDevice.meaning M.WideMode.state self.old)) sector buffer.now }
         ensures enciphered_below { view D.SectorDevice.meaning M.WideMode.state self.new ≡ after_write_to M.WideMode.kind (view D.SectorDevice.meaning M.WideMode.state self.old) sector buffer.now }
     {
-        check(self.count(), self.size(), sector, buffer.len())?;
+        self.admit(sector, buffer.len())?;
         self.check_open(sector)?;
         let mut scratch = [0; LARGEST];
         let bytes = &mut scratch[0..buffer.len()];

@@ -10,6 +10,8 @@ use modes::WideMode;
 
 /// A volume on a device, with two modes of one type. During a sweep the next mode serves the sectors below the mark, and
 /// the current one the others.
+// Stays: clauses see a volume as `view D.meaning M.state v`. An `impl Model` would owe the `sound` of a device at each value
+// of the model, also at those that no volume has.
 #[derive(Drop)]
 pub struct Volume<D: SectorDevice, M: WideMode> {
     pub(crate) device: D,
@@ -22,10 +24,7 @@ pub struct Volume<D: SectorDevice, M: WideMode> {
 fn name(call: CallName, answer: Result<(), Refusal>) -> Result<(), VolumeFault>
     ensures { result ≡ named call answer }
 {
-    match answer {
-        Ok(()) => Ok(()),
-        Err(refusal) => Err(VolumeFault { call, refusal }),
-    }
+    answer.map_err(|refusal| VolumeFault { call, refusal })
 }
 
 impl<D: SectorDevice, M: WideMode> Volume<D, M> {

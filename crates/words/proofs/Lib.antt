@@ -1,2 +1,3 @@
+mod Bounds
 mod Turns
 mod Widths

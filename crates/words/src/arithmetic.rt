@@ -6,6 +6,7 @@ ghost use Rattle.polynomials.specs.Polynomial.{xtime as xtime_of, product};
 ghost use Rattle.words.specs.Values.{valued};
 
 use crate::Word;
+use std::mem;
 
 /// x·a
 pub fn xtime<W: Word>(low: W, a: W) -> W
@@ -19,7 +20,7 @@ pub fn times_power<W: Word>(low: W, a: W, k: u32) -> W
     ensures { W.value result ≡ product W.size (W.value low) (W.value a) (2 ^ k) }
 {
     let mut power = a;
-    for i in 0..k {
+    for _ in 0..k {
         power = xtime(low, power);
     }
     power
@@ -59,7 +60,7 @@ pub fn multiply<W: Word>(low: W, a: W, b: W) -> W
     ensures { W.value result ≡ product W.size (W.value low) (W.value a) (W.value b) }
 {
     let mut sum = W::zero();
-    for i in (0..(W::bits() - 1) / 8 + 1).rev() {
+    for i in (0..W::bits().div_ceil(8)).rev() {
         sum = times_x8(low, sum).add(times_byte(low, a, b.lowered(8 * i)));
     }
     sum
@@ -83,12 +84,8 @@ pub fn inverse<W: Word>(low: W, a: W) -> Option<W>
     let mut h = W::one();
     while !u.is_zero() {
         if u.is_below(v) {
-            let greater = v;
-            let its_factor = h;
-            v = u;
-            h = g;
-            u = greater;
-            g = its_factor;
+            mem::swap(&mut u, &mut v);
+            mem::swap(&mut g, &mut h);
         }
         let k = v.leading_zeros() - u.leading_zeros();
         u = u.add(v.shifted(k));

@@ -50,7 +50,7 @@ pub trait Word: Copy {
         ensures { value result ≡ value self / 2 ^ by }
     {
         let mut low = self;
-        for i in 0..by {
+        for _ in 0..by {
             low = low.halved();
         }
         low

@@ -1,198 +1,96 @@
-//! The machine's words of 8, 64 and 128 bits.
+//! The machine's unsigned numbers, of whatever width, as words.
 
-ghost use Rattle.std.specs.Prelude.{◌≡◌, ℕ, ◌%◌, ◌^◌};
+ghost use Rattle.std.specs.Prelude.{◌≡◌, ℕ, ◌-◌, ◌%◌, ◌^◌};
+ghost use Rattle.num_traits.specs.Laws.{bit_len};
+ghost use Rattle.words.specs.Widths.{bits_few, bits_some};
 ghost use Rattle.std.proofs.Common.{rules};
 
 use crate::Word;
+use num_traits::{One, PrimInt, Unsigned, Zero};
 
-impl Word for u8 {
-    ghost size = { 8 };
-
-    ghost value = { λ x. x % 2 ^ 8 };
-
-    ghost some = { Prim.search rules };
-
-    ghost few = { Prim.search rules };
-
-    ghost below = { Prim.search rules };
-
-    fn bits() -> u32 {
-        8
-    }
-
-    fn zero() -> u8 {
-        0
-    }
-
-    fn one() -> u8 {
-        1
-    }
-
-    fn is_zero(self) -> bool {
-        self == 0
-    }
-
-    fn is_one(self) -> bool {
-        self == 1
-    }
-
-    fn is_below(self, other: u8) -> bool {
-        self < other
-    }
-
-    fn add(self, other: u8) -> u8 {
-        self ^ other
-    }
-
-    fn shifted(self, by: u32) -> u8 {
-        if by < 8 { self << by } else { 0 }
-    }
-
-    fn halved(self) -> u8 {
-        self >> 1
-    }
-
-    fn lowered(self, by: u32) -> u8 {
-        if by < 8 { self >> by } else { 0 }
-    }
-
-    fn top(self) -> u8 {
-        self >> 7
-    }
-
-    fn masked(self, bit: u8) -> u8 {
-        0u8.wrapping_sub(bit & 1) & self
-    }
-
-    fn leading_zeros(self) -> u32 {
-        self.leading_zeros()
-    }
+/// The number with each bit set.
+fn ones<T: PrimInt + Unsigned>() -> T
+    ensures bits { T.bits_of result ≡ 2 ^ bit_len T.width - 1 }
+    ensures range { T.fits (T.value result) }
+{
+    !T::zero()
 }
 
-impl Word for u64 {
-    ghost size = { 64 };
-
-    ghost value = { λ x. x % 2 ^ 64 };
-
-    ghost some = { Prim.search rules };
-
-    ghost few = { Prim.search rules };
-
-    ghost below = { Prim.search rules };
-
-    fn bits() -> u32 {
-        64
-    }
-
-    fn zero() -> u64 {
-        0
-    }
-
-    fn one() -> u64 {
-        1
-    }
-
-    fn is_zero(self) -> bool {
-        self == 0
-    }
-
-    fn is_one(self) -> bool {
-        self == 1
-    }
-
-    fn is_below(self, other: u64) -> bool {
-        self < other
-    }
-
-    fn add(self, other: u64) -> u64 {
-        self ^ other
-    }
-
-    fn shifted(self, by: u32) -> u64 {
-        if by < 64 { self << by } else { 0 }
-    }
-
-    fn halved(self) -> u64 {
-        self >> 1
-    }
-
-    fn lowered(self, by: u32) -> u64 {
-        if by < 64 { self >> by } else { 0 }
-    }
-
-    fn top(self) -> u64 {
-        self >> 63
-    }
-
-    fn masked(self, bit: u64) -> u64 {
-        0u64.wrapping_sub(bit & 1) & self
-    }
-
-    fn leading_zeros(self) -> u32 {
-        self.leading_zeros()
-    }
+/// The number itself. The mask keeps each bit, and shows to a proof, which does not know the type, that there are no more.
+fn whole<T: PrimInt + Unsigned>(number: T) -> T
+    ensures { T.bits_of result ≡ T.bits_of number % 2 ^ bit_len T.width }
+{
+    number & ones::<T>()
 }
 
-impl Word for u128 {
-    ghost size = { 128 };
+impl<T: PrimInt + Unsigned> Word for T {
+    ghost size = { bit_len T.width };
 
-    ghost value = { λ x. x % 2 ^ 128 };
+    ghost value = { λ x. T.bits_of x % 2 ^ bit_len T.width };
 
-    ghost some = { Prim.search rules };
+    ghost some = { bits_some T.width };
 
-    ghost few = { Prim.search rules };
+    ghost few = { bits_few T.width };
 
     ghost below = { Prim.search rules };
 
     fn bits() -> u32 {
-        128
+        PrimInt::leading_zeros(T::zero())
     }
 
-    fn zero() -> u128 {
-        0
+    fn zero() -> T {
+        Zero::zero()
     }
 
-    fn one() -> u128 {
-        1
+    fn one() -> T {
+        One::one()
     }
 
     fn is_zero(self) -> bool {
-        self == 0
+        whole(self) == T::zero()
     }
 
     fn is_one(self) -> bool {
-        self == 1
+        whole(self) == T::one()
     }
 
-    fn is_below(self, other: u128) -> bool {
-        self < other
+    fn is_below(self, other: T) -> bool {
+        whole(self) < whole(other)
     }
 
-    fn add(self, other: u128) -> u128 {
-        self ^ other
+    fn add(self, other: T) -> T {
+        whole(self) ^ whole(other)
     }
 
-    fn shifted(self, by: u32) -> u128 {
-        if by < 128 { self << by } else { 0 }
+    fn shifted(self, by: u32) -> T {
+        if by < T::bits() {
+            self.unsigned_shl(by)
+        } else {
+            Word::zero()
+        }
     }
 
-    fn halved(self) -> u128 {
-        self >> 1
+    fn halved(self) -> T {
+        whole(self).unsigned_shr(1)
     }
 
-    fn lowered(self, by: u32) -> u128 {
-        if by < 128 { self >> by } else { 0 }
+    fn lowered(self, by: u32) -> T {
+        if by < T::bits() {
+            whole(self).unsigned_shr(by)
+        } else {
+            T::zero()
+        }
     }
 
-    fn top(self) -> u128 {
-        self >> 127
+    fn top(self) -> T {
+        whole(self).unsigned_shr(T::bits() - 1)
     }
 
-    fn masked(self, bit: u128) -> u128 {
-        0u128.wrapping_sub(bit & 1) & self
+    fn masked(self, bit: T) -> T {
+        (bit & T::one()) * ones::<T>() & self
     }
 
     fn leading_zeros(self) -> u32 {
-        self.leading_zeros()
+        PrimInt::leading_zeros(whole(self))
     }
 }

@@ -12,11 +12,12 @@ unfolding sum_after
 sum_lt zero = lit< tt
 sum_lt (suc i) = plus_lt (sum_after i) 0x9E3779B9
 
-pub sum_back : (i s : ℕ) → 0 < i → s ≡ sum_after i → minus s 0x9E3779B9 ≡ sum_after (i - 1)
+-- i rounds before the last
+pub sum_back : (i s : ℕ) → i < 32 → s ≡ sum_after (32 - i) → minus s 0x9E3779B9 ≡ sum_after (32 - (i + 1))
 unfolding sum_after
-sum_back i s pos e =
-    let is : i ≡ suc (i - 1) = omega arith in
-    ap (λ n. minus n 0x9E3779B9) (e ∙ ap sum_after is) ∙ plus_undone (sum_after (i - 1)) 0x9E3779B9 (sum_lt (i - 1)) (lit< tt)
+sum_back i s low e =
+    let is : 32 - i ≡ suc (32 - (i + 1)) = omega arith in
+    ap (λ n. minus n 0x9E3779B9) (e ∙ ap sum_after is) ∙ plus_undone (sum_after (32 - (i + 1))) 0x9E3779B9 (sum_lt (32 - (i + 1))) (lit< tt)
 
 module _ (ks : List ℕ) where
   grow₀_is : (a b p s t : ℕ) → s ≡ t → p ≡ change b s (get_or ks (s % 4) 0) → pair (plus a p) b ≡ grow₀ ks t (pair a b)
@@ -47,15 +48,15 @@ module _ (ks : List ℕ) where
       ∙ ap (grow₁ ks t) (grow₀_is a b p s (sum_after i) es ep ∙ ap (grow₀ ks (sum_after i)) e)
       ∙ ap (λ n. rounds ks n h) (sym (add-one i))
 
-  pub inv_turn : (g : Words) (i a b s p q : ℕ) → 0 < i → s ≡ sum_after i → rounds_back ks i (pair a b) ≡ g
+  pub inv_turn : (g : Words) (i a b s p q : ℕ) → i < 32 → s ≡ sum_after (32 - i) → rounds_back ks (32 - i) (pair a b) ≡ g
       → q ≡ change a s (get_or ks (s / 2 ^ 11 % 4) 0)
       → p ≡ change (minus b q) (minus s 0x9E3779B9) (get_or ks (minus s 0x9E3779B9 % 4) 0)
-      → rounds_back ks (i - 1) (pair (minus a p) (minus b q)) ≡ g
+      → rounds_back ks (32 - (i + 1)) (pair (minus a p) (minus b q)) ≡ g
   unfolding rounds_back
-  inv_turn g i a b s p q pos es e eq ep =
-      let is : i ≡ suc (i - 1) = omega arith in
-      let before = sum_back i s pos es in
-      ap (rounds_back ks (i - 1))
-      (shrink₀_is a (minus b q) p (minus s 0x9E3779B9) (sum_after (i - 1)) before ep
-      ∙ ap (shrink₀ ks (sum_after (i - 1))) (shrink₁_is a b q s (sum_after (suc (i - 1))) (es ∙ ap sum_after is) eq))
+  inv_turn g i a b s p q low es e eq ep =
+      let n = 32 - (i + 1) in
+      let is : 32 - i ≡ suc n = omega arith in
+      ap (rounds_back ks n)
+      (shrink₀_is a (minus b q) p (minus s 0x9E3779B9) (sum_after n) (sum_back i s low es) ep
+      ∙ ap (shrink₀ ks (sum_after n)) (shrink₁_is a b q s (sum_after (suc n)) (es ∙ ap sum_after is) eq))
       ∙ sym (ap (λ n. rounds_back ks n (pair a b)) is) ∙ e

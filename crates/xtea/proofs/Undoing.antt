@@ -2,6 +2,7 @@
 use Rattle.std.proofs.Common.{◌≡◌, ℕ, zero, suc, ◌+◌, ◌-◌, ◌*◌, ◌/◌, ◌%◌, ◌^◌, ◌<◌, List, get_or, refl, ap, ◌∙◌, ap₂, mod-lt, arith, lit<}
 use lib.Bits.{xor_lt}
 use Rattle.std.proofs.lemmas.Nat.{div_below, div-add-mod'}
+use Rattle.xtea.specs.Laws.{Undoing}
 use Rattle.xtea.specs.Xtea.{plus, minus, F, change, sum_after, Words, grow₀, grow₁, shrink₀, shrink₁, rounds, rounds_back, key_words, words_of, block_of, encipher, decipher}
 
 pub plus_lt : (a b : ℕ) → plus a b < 2 ^ 32
@@ -140,3 +141,6 @@ module _ (key : List ℕ) (x : ℕ) (h : x < 2 ^ 64) where
       let f = words_fine x h in
       ap (λ t. block_of (rounds ks 32 t)) (words_block (rounds_back ks 32 v) (rounds_back_fine ks 32 v f))
       ∙ ap block_of (rounds_redone ks 32 v f) ∙ block_words x
+
+pub undoing : Undoing
+undoing = record { encipher_block = encipher_lt; decipher_block = decipher_lt; undone = undone; redone = redone }

@@ -6,61 +6,50 @@
 
 ghost use Rattle.std.specs.Prelude.{◌≡◌, ℕ, ◌+◌, ◌*◌, ◌/◌, ◌%◌, ◌^◌, ◌<◌, length, replicate, slice_index};
 ghost use Rattle.xtea.specs.Laws.{Undoing};
-ghost use Rattle.xtea.specs.Xtea.{change, key_word, key_words, encipher as enciphered, decipher as deciphered};
+ghost use Rattle.xtea.specs.Xtea.{change, key_words, encipher as enciphered, decipher as deciphered};
+
+const ROUNDS: u32 = 32;
 
 const DELTA: u32 = 0x9e37_79b9;
 
-/// s after 32 rounds.
+/// s after all rounds.
 const LAST_SUM: u32 = 0xc6ef_3720;
 
 /// F(v) xor (s + k)
+#[tactic(auto, unfolding(crate::specs::Xtea::plus, crate::specs::Xtea::F, crate::specs::Xtea::change))]
 fn change_by(v: u32, s: u32, k: u32) -> u32
     ensures { result ≡ change v s k }
 {
     ((v << 4) ^ (v >> 5)).wrapping_add(v) ^ s.wrapping_add(k)
 }
 
-fn key_word(key: &[u8; 16], i: usize) -> u32
-    requires { i < 4 }
-    ensures { result ≡ key_word key.now i }
-{
-    u32::from_be_bytes([key[4 * i], key[4 * i + 1], key[4 * i + 2], key[4 * i + 3]])
-}
-
+#[tactic(auto, unfolding(crate::specs::Xtea::key_words), using(crate::proofs::Chunks::word_at))]
 fn key_words(key: &[u8; 16]) -> [u32; 4]
     ensures { result ≡ key_words key.now }
 {
+    let (words, _) = key.as_chunks::<4>();
     [
-        key_word(key, 0),
-        key_word(key, 1),
-        key_word(key, 2),
-        key_word(key, 3),
+        u32::from_be_bytes(words[0]),
+        u32::from_be_bytes(words[1]),
+        u32::from_be_bytes(words[2]),
+        u32::from_be_bytes(words[3]),
     ]
 }
 
-fn first_word(block: u64) -> u32
-    ensures { result ≡ block / 2 ^ 32 }
+fn words_of(block: u64) -> (u32, u32)
+    ensures { (result.0 ≡ block / 2 ^ 32) × (result.1 ≡ block % 2 ^ 32) }
 {
-    let [a, b, c, d, _, _, _, _] = block.to_be_bytes();
-    u32::from_be_bytes([a, b, c, d])
-}
-
-fn second_word(block: u64) -> u32
-    ensures { result ≡ block % 2 ^ 32 }
-{
-    let [_, _, _, _, a, b, c, d] = block.to_be_bytes();
-    u32::from_be_bytes([a, b, c, d])
+    ((block >> 32) as u32, (block & 0xffff_ffff) as u32)
 }
 
 fn block_of(v0: u32, v1: u32) -> u64
     ensures { result ≡ v0 * 2 ^ 32 + v1 }
 {
-    let [a, b, c, d] = v0.to_be_bytes();
-    let [e, f, g, h] = v1.to_be_bytes();
-    u64::from_be_bytes([a, b, c, d, e, f, g, h])
+    ((v0 as u64) << 32) + v1 as u64
 }
 
 /// XTEA under a key; the words of the key are kept beside it.
+// Stays: ghost fields, and no model whose value is the key: `BlockCipher::fitting` is owed at every value, and not every list is a key.
 #[derive(Drop)]
 pub struct Xtea {
     key: [u8; 16],
@@ -75,7 +64,12 @@ impl Xtea {
     pub fn new() -> Xtea
         ensures key_is_zero { result.key ≡ replicate 16 0 }
     {
-        let key = [0; 16];
+        Xtea::of([0; 16])
+    }
+
+    fn of(key: [u8; 16]) -> Xtea
+        ensures { result.key ≡ key }
+    {
         let words = key_words(&key);
         Xtea { key, words }
     }
@@ -83,17 +77,15 @@ impl Xtea {
     pub fn set_key(&mut self, key: &[u8; 16])
         ensures key_is_held { self.new.key ≡ key.now }
     {
-        let words = key_words(key);
-        *self = Xtea { key: *key, words };
+        *self = Xtea::of(*key);
     }
 
     pub fn encipher(&self, block: u64) -> u64
         ensures block_is_enciphered { result ≡ enciphered self.now.key block }
     {
-        let mut v0 = first_word(block);
-        let mut v1 = second_word(block);
+        let (mut v0, mut v1) = words_of(block);
         let mut s = 0u32;
-        for i in 0..32u32 {
+        for _ in 0..ROUNDS {
             v0 = v0.wrapping_add(change_by(v1, s, self.words[(s % 4) as usize]));
             s = s.wrapping_add(DELTA);
             v1 = v1.wrapping_add(change_by(v0, s, self.words[((s >> 11) % 4) as usize]));
@@ -104,10 +96,9 @@ impl Xtea {
     pub fn decipher(&self, block: u64) -> u64
         ensures block_is_deciphered { result ≡ deciphered self.now.key block }
     {
-        let mut v0 = first_word(block);
-        let mut v1 = second_word(block);
+        let (mut v0, mut v1) = words_of(block);
         let mut s = LAST_SUM;
-        for i in (0..32u32).rev() {
+        for _ in 0..ROUNDS {
             v1 = v1.wrapping_sub(change_by(v0, s, self.words[((s >> 11) % 4) as usize]));
             s = s.wrapping_sub(DELTA);
             v0 = v0.wrapping_sub(change_by(v1, s, self.words[(s % 4) as usize]));
@@ -117,6 +108,7 @@ impl Xtea {
 }
 
 /// Each map undoes the other, for every key and every block.
+#[tactic(auto, using(crate::proofs::Undoing::undoing))]
 pub fn deciphering_undoes_enciphering()
     ensures undoing { Undoing }
 {}

@@ -1,16 +1,7 @@
-use Rattle.std.proofs.Common.{◌≡◌, ◌-◌, ◌<◌, ◌≤◌, length, sym, refl, ap, ◌∙◌, arith, length-set, take_all}
+use Rattle.std.proofs.Common.{◌≡◌, ◌-◌, ◌<◌, ◌≤◌, length, sym, ap, ◌∙◌, arith, length-set, take_all}
 use Rattle.aes.specs.Aes.{expansion, key_expansion}
 use Rattle.aes.proofs.Expansion.{more}
 use Rattle.aes.proofs.schedule.expand.Goals as goal
-
-pub loop-i-init : goal.loop-i-init
-unfolding expansion
-loop-i-init c =
-    let e0 = c.key_word.ensures in
-    let e1 = c.key_word-2.ensures in
-    let e2 = c.key_word-3.ensures in
-    let e3 = c.key_word-4.ensures in
-    (refl, cc)
 
 pub loop-i-preserved : goal.loop-i-preserved
 loop-i-preserved c =

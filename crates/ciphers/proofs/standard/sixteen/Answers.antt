@@ -1,11 +1,17 @@
-use Rattle.std.proofs.Common.{◌≡◌, true, Some, None, sym, ap, ◌∙◌}
-use Rattle.std.proofs.lemmas.Bool.{cond-true}
-use Rattle.rings.specs.Rows.{row}
+use Rattle.std.proofs.Common.{◌≡◌, ℕ, ◌<◌, ◌≢◌, true, false, ◌&&◌, List, length, get_or, Some, None, Option, MatchOption, MatchResult, ap, ne_eqb}
+use Rattle.std.specs.Array.{IsWholeChunk}
+use Rattle.std.specs.Option.{ok_or}
+use denote.Ref.{Bor}
+use Rattle.rings.specs.Rows.{all_bytes, row}
 use Rattle.rings.proofs.Rows.{row_array}
+use Rattle.ciphers.specs.declared.KeyFault.TheVariants.{WrongLength}
 use Rattle.ciphers.proofs.standard.sixteen.Goals as goal
 
+module _ (key : List ℕ) (bytes : (i : ℕ) → get_or key i 0 < 256) where
+  told : (o : Option (Bor (List ℕ))) → MatchOption o (length key ≢ 16) (λ k. IsWholeChunk key k.now 16)
+      → MatchResult (ok_or o WrongLength) (λ k. (row 16 key ≡ true) × (k.now ≡ key)) (λ _. row 16 key ≡ false)
+  told None other = ap (λ b. b && all_bytes key) (ne_eqb (length key) 16 other)
+  told (Some k) is = (row_array 16 key is.long bytes, is.same)
+
 pub returns : goal.returns
-returns c =
-    let key = c.args.key.now in
-    let good : row 16 key ≡ true = row_array 16 key c.if-key-ne16.false (λ i. (c.type_inv.key i).fits) in
-    ap Some c.copy_from_slice.ensures.after ∙ sym (cond-true (row 16 key) (Some key) None good)
+returns c = rw c.ok_or.ensures.value (told c.args.key.now (λ i. (c.type_inv.key i).fits) c.as_array.result c.as_array.ensures.cases)

@@ -1,6 +1,5 @@
 use Rattle.std.proofs.Common.{◌*◌, length, ap, ◌∙◌, arith}
 use borrow.Rule.Slice.PartMut.{put_mid}
-use Rattle.devices.proofs.Answers.{passed}
 use Rattle.images.specs.Image.{size_of, cut}
 use Rattle.images.specs.Sounds.{inside}
 use Rattle.images.proofs.Slices.{below, fits, accepted, writes, stores}
@@ -12,9 +11,8 @@ copy_in-requires c =
     let bytes = c.args.self.now.bytes.now in
     let s = c.args.sector in
     let len = length c.args.buffer.now in
-    let z = c.sector_size-size.ensures in
-    let ok = passed (cut k bytes) s _ _ len c.count-count.ensures z c.in_ok-check.ensures in
-    omega (arith, inside k bytes s (below k bytes s len ok), fits k bytes s len ok, ap (λ n. s * n) z)
+    let ok = c.in_ok-admit.ensures in
+    omega (arith, c.start.ensures, inside k bytes s (below k bytes s len ok), fits k bytes s len ok)
 
 pub returns : goal.returns
 returns c =
@@ -22,13 +20,12 @@ returns c =
     let bytes = c.args.self.now.bytes.now in
     let s = c.args.sector in
     let buffer = c.args.buffer.now in
-    let z = c.sector_size-size.ensures in
-    let ok = passed (cut k bytes) s _ _ (length buffer) c.count-count.ensures z c.in_ok-check.ensures in
+    let ok = c.in_ok-admit.ensures in
     let put = c.copy_in.ensures in
     let after = c.copy_in.new.self.bytes.now in
     let is =
     put.bytes_are_put
-    ∙ ap (λ n. put_mid (s * n) (length buffer) bytes buffer) z
+    ∙ ap (λ n. put_mid n (length buffer) bytes buffer) c.start.ensures
     ∙ ap (λ n. put_mid (s * k) n bytes buffer) (fits k bytes s (length buffer) ok)
     in
     record {

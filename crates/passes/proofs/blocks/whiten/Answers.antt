@@ -1,52 +1,25 @@
-use Rattle.std.proofs.Common.{ℕ, ◌/◌, ◌<◌, ◌≤◌, length, get_or, ap, ◌∙◌, ap₂, arith, rules}
+use Rattle.std.proofs.Common.{◌≡◌, ap, ◌∙◌, rules}
 use lib.Bits.{bit_xor}
-use Rattle.std.specs.Int.Digits.{AllBelowBase}
-use Rattle.std.proofs.ByRecursion.{All-from_get_or}
-use Rattle.rings.proofs.Bytes.{block_inside}
+use Rattle.rings.specs.Ring.{times}
+use Rattle.rings.specs.Sums.{power}
 use Rattle.passes.specs.Passes.{whitened_at}
-use Rattle.passes.proofs.Loops.{each_none, step, all_blocks}
+use Rattle.passes.specs.Sector.{parted, joined}
+use Rattle.passes.proofs.Loops.{placed_by}
 use Rattle.passes.proofs.Stages.{offset_first, offset_more}
 use Rattle.passes.proofs.blocks.whiten.Goals as goal
-
-pub overflow_mul-start : goal.overflow_mul-start
-overflow_mul-start g c = let h = block_inside c.loop-i.i (length c.args.sector.now) c.width-w.result c.loop-i-test.true in search rules
-
-pub overflow_add-part : goal.overflow_add-part
-overflow_add-part g c = let h = block_inside c.loop-i.i (length c.args.sector.now) c.width-w.result c.loop-i-test.true in search rules
-
-pub slice_bounds-part-end : goal.slice_bounds-part-end
-slice_bounds-part-end g c = let h = block_inside c.loop-i.i (length c.args.sector.now) c.width-w.result c.loop-i-test.true in omega arith
-
-pub loop-i-init : goal.loop-i-init
-loop-i-init g c =
-    let m = g.R.BlockRing in
-    let β = m.value c.args.beta in
-    (offset_first m.ring β (g.met.R.BlockRing.below c.args.beta), each_none m.ring.width (whitened_at m.ring β) c.args.sector.now)
-
-pub loop-i-preserved : goal.loop-i-preserved
-loop-i-preserved g c =
-    let m = g.R.BlockRing in
-    let v = c.width-w.result in
-    let i = c.loop-i.i in
-    let bs = c.args.sector.now in
-    let bytes : (k : ℕ) → get_or bs k 0 < 256 = search rules in
-    let under : AllBelowBase 256 bs = All-from_get_or (λ (d : ℕ). d < 256) bs 0 (λ k _. bytes k) in
-    let inside = block_inside i (length bs) v c.loop-i-test.true in
-    let β = m.value c.args.beta in
-    let sum = c.add.ensures ∙ ap₂ bit_xor c.from_bytes.ensures c.loop-i.invariant.0 in
-    let next = c.times_alpha-offset.ensures ∙ ap (m.ring.product 2) c.loop-i.invariant.0 ∙ offset_more m.ring β i in (
-      next,
-      step m.ring.width (whitened_at m.ring β) bs under v c.width-w.ensures c.loop-i.sector c.to_bytes.new.bytes i (m.value c.add.result)
-          inside c.loop-i.invariant.1 c.to_bytes.ensures sum,
-    )
 
 pub returns : goal.returns
 returns g c =
     let m = g.R.BlockRing in
+    let r = m.ring in
     let w = m.ring.width in
-    let bs = c.args.sector.now in
-    let n = length bs in
-    let e = ap (λ (v : ℕ). n / v) c.width-w.ensures in
-    let ge : n / w ≤ c.loop-i.i = omega (arith, e) in
-    let le : c.loop-i.i ≤ n / w = omega (arith, e) in
-    record { sector_is_whitened = c.loop-i.invariant.1 ∙ all_blocks w (whitened_at m.ring (m.value c.args.beta)) bs c.loop-i.i (n / w) ge le }
+    let β = m.value c.args.beta in
+    let made = c.map_each.ensures in
+    record {
+      sector_is_whitened = made.2 ∙ ap (joined w) (placed_by _ m.value (whitened_at r β) (λ i f. m.value f.0.now ≡ times r (power r 2 i) β)
+          (λ i p x y q is k.
+          let sum : m.value y ≡ bit_xor (m.value x) (m.value p.0.now) = search rules in
+          let next : m.value q.0.now ≡ r.product 2 (m.value p.0.now) = search rules in
+          (sum ∙ ap (bit_xor (m.value x)) is, next ∙ ap (r.product 2) is ∙ offset_more r β i))
+          _ (offset_first r β (g.met.R.BlockRing.below c.args.beta)) (parted w c.args.sector.now) made.0 made.1);
+    }

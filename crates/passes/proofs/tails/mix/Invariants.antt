@@ -5,4 +5,4 @@ use Rattle.passes.proofs.tails.mix.Given as goal
 abbrev pub invariant-loop-j : goal.invariant-loop-j
 invariant-loop-j g l =
     let m = g.R.BlockRing in
-    l.tail ≡ take l.j (mixed m.ring (m.value l.block) l.initial.tail) ++ drop l.j l.initial.tail
+    l.byte-items ≡ take l.j (mixed m.ring (m.value l.block) l.initial.byte-items) ++ drop l.j l.initial.byte-items

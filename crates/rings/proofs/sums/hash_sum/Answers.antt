@@ -1,40 +1,43 @@
-use Rattle.std.proofs.Common.{◌≡◌, ℕ, ◌/◌, ◌<◌, length, sym, ap, ◌∙◌, subst, arith}
+use Rattle.std.proofs.Common.{◌≡◌, ℕ, Bor, List, ◌%◌, ◌<◌, ◌∷◌, [], map, sym, ap, ◌∙◌, subst}
 use lib.Bits.{bit_xor}
-use Rattle.std.specs.Int.Digits.{AllBelowBase}
+use Rattle.std.specs.Int.Digits.{number_from_digits, AllBelowBase}
+use Rattle.std.specs.Slice.Iter.{chunks_exact_rest, chunks_exact_size}
+use Rattle.rings.specs.Blocks.{blocks}
 use Rattle.std.proofs.ByRecursion.{All-from_get_or}
-use Rattle.rings.specs.Blocks.{block_at, first_blocks}
+use Rattle.std.proofs.lemmas.List.{map-append}
+use Rattle.rings.specs.Ring.{size}
 use Rattle.rings.specs.Sums.{hash_sum}
-use Rattle.rings.proofs.Bytes.{block_below, blocks_none, blocks_more}
+use Rattle.rings.proofs.Chunks.{chunked}
 use Rattle.rings.proofs.Powers.{hash_sum_none, hash_sum_turns}
+use Rattle.rings.proofs.Total.{rest_below}
 use Rattle.rings.proofs.sums.hash_sum.Goals as goal
 
-pub loop-i-init : goal.loop-i-init
-loop-i-init g c =
+pub loop-block-init : goal.loop-block-init
+loop-block-init g c = c.zero-sum.ensures ∙ sym (hash_sum_none g.R.BlockRing.ring (g.R.BlockRing.value c.args.tau))
+
+pub loop-block-preserved : goal.loop-block-preserved
+loop-block-preserved g c =
     let m = g.R.BlockRing in
     let τ = m.value c.args.tau in
-    c.zero-sum.ensures ∙ sym (ap (hash_sum m.ring τ) (blocks_none m.ring.width c.args.sector.now) ∙ hash_sum_none m.ring τ)
-
-pub block_at-requires : goal.block_at-requires
-block_at-requires g c =
-    subst (λ (w : ℕ). c.loop-i.i < length c.args.sector.now / w) c.width.ensures c.loop-i-test.true
-
-pub loop-i-preserved : goal.loop-i-preserved
-loop-i-preserved g c =
-    let m = g.R.BlockRing in
-    let w = m.ring.width in
-    let i = c.loop-i.i in
-    let bytes = c.args.sector.now in
-    let τ = m.value c.args.tau in
-    let sum = m.value c.loop-i.sum in
-    let under : AllBelowBase 256 bytes = All-from_get_or (λ (d : ℕ). d < 256) bytes 0 (λ k _. (c.type_inv.sector k).fits) in
-    hash_sum_turns m.ring τ sum (block_at w i bytes) (m.value c.multiply-sum.result) (first_blocks w i bytes)
-    (g.met.R.BlockRing.below c.args.tau) (block_below w i bytes under) c.loop-i.invariant
-    (c.multiply-sum.ensures ∙ ap (λ (x : ℕ). m.ring.product x τ) (c.add.ensures ∙ ap (bit_xor sum) c.block_at.ensures))
-    ∙ ap (hash_sum m.ring τ) (sym (blocks_more w i bytes))
+    let sum = m.value c.loop-block.sum in
+    let read = λ (b : Bor (List ℕ)). number_from_digits 256 b.now % size m.ring in
+    hash_sum_turns m.ring τ sum (read c.in-Some.block) (m.value c.multiply-sum.result) (map read c.loop-block.yielded)
+    (g.met.R.BlockRing.below c.args.tau) (rest_below m.ring (number_from_digits 256 c.in-Some.block.now)) c.loop-block.invariant
+    (c.multiply-sum.ensures ∙ ap (λ (x : ℕ). m.ring.product x τ) (c.add.ensures ∙ ap (bit_xor sum) c.from_bytes.ensures))
+    ∙ ap (hash_sum m.ring τ) (sym (map-append read c.loop-block.yielded (c.in-Some.block ∷ [])))
 
 pub returns : goal.returns
 returns g c =
     let m = g.R.BlockRing in
-    let n = length c.args.sector.now in
-    let same : c.loop-i.i ≡ n / m.ring.width = omega (arith, ap (λ (w : ℕ). n / w) c.width.ensures) in
-    c.loop-i.invariant ∙ ap (λ (j : ℕ). hash_sum m.ring (m.value c.args.tau) (first_blocks m.ring.width j c.args.sector.now)) same
+    let r = m.ring in
+    let bytes = c.args.sector.now in
+    let under : AllBelowBase 256 bytes = All-from_get_or (λ (d : ℕ). d < 256) bytes 0 (λ k _. (c.type_inv.sector k).fits) in
+    let begun = c.into_iter-block-iterator.ensures.into_iter_gives in
+    let w_is : chunks_exact_size c.into_iter-block-iterator.result ≡ r.width =
+    ap chunks_exact_size begun ∙ c.chunks_exact-block-items.ensures.size ∙ c.width.ensures in
+    let all : chunks_exact_rest c.into_iter-block-iterator.result ≡ bytes = ap chunks_exact_rest begun ∙ c.chunks_exact-block-items.ensures.rest in
+    c.loop-block.invariant
+    ∙ ap (hash_sum r (m.value c.args.tau))
+    (chunked r.width r.some c.into_iter-block-iterator.result c.loop-block.block-iterator c.loop-block.yielded c.loop-block.yielded_by w_is
+    (subst (AllBelowBase 256) (sym all) under) c.in-None.ensures.steps.1.0
+    ∙ ap (blocks r.width) all)

@@ -1,9 +1,10 @@
-use Rattle.std.proofs.Common.{◌≡◌}
-use Rattle.rings.specs.Blocks.{first_blocks}
+use Rattle.std.proofs.Common.{◌≡◌, ◌%◌, map}
+use Rattle.std.specs.Int.Digits.{number_from_digits}
+use Rattle.rings.specs.Ring.{size}
 use Rattle.rings.specs.Sums.{hash_sum}
 use Rattle.rings.proofs.sums.hash_sum.Given as goal
 
-abbrev pub invariant-loop-i : goal.invariant-loop-i
-invariant-loop-i g l =
+abbrev pub invariant-loop-block : goal.invariant-loop-block
+invariant-loop-block g l =
     let m = g.R.BlockRing in
-    m.value l.sum ≡ hash_sum m.ring (m.value l.tau) (first_blocks m.ring.width l.i l.sector)
+    m.value l.sum ≡ hash_sum m.ring (m.value l.tau) (map (λ b. number_from_digits 256 b.now % size m.ring) l.yielded)

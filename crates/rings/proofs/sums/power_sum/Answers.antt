@@ -1,7 +1,5 @@
-use Rattle.std.proofs.Common.{◌≡◌, ℕ, ◌+◌, ◌-◌, ◌/◌, ◌^◌, ◌<◌, ◌≤◌, ◌≢◌, sym, ap, ◌∙◌, subst, div-lt_iff_lt-mul, div-one, arith, pow_pos, shr-shr}
-use native.Mathlib.Nat.{pow-succ'}
+use Rattle.std.proofs.Common.{◌≡◌, ℕ, ◌+◌, ◌-◌, ◌*◌, ◌/◌, ◌^◌, ◌<◌, ◌≤◌, ◌≢◌, sym, ap, ◌∙◌, subst, div-lt_iff_lt-mul, div-one, arith, pow_pos, shr-shr}
 use lib.Bits.{bit_and, and_mask}
-use lib.Count.{count_leading_zeros, leading_top}
 use Rattle.std.proofs.lemmas.Nat.{le-div}
 use Rattle.rings.specs.Ring.{RingKind}
 use Rattle.rings.specs.Sums.{sigma}
@@ -9,14 +7,11 @@ use Rattle.rings.proofs.Powers.{Summed, summed_one, powers_one, summed_doubled, 
 use Rattle.rings.proofs.sums.power_sum.Goals as goal
 
 -- the highest bit alone
-top_bit : (k : ℕ) → 0 < k → k < 2 ^ 64 → k / 2 ^ (63 - count_leading_zeros 64 k) ≡ 1
-top_bit k pos h =
-    let t = leading_top 64 k pos h in
-    let j = t.0 in
-    let e : 63 - count_leading_zeros 64 k ≡ j = omega (arith, t.1) in
-    let low : 1 ≤ k / 2 ^ j = le-div 1 k (2 ^ j) (pow_pos j) (omega (arith, t.2)) in
-    let high : k / 2 ^ j < 2 = (div-lt_iff_lt-mul {k = 2 ^ j} {x = k} {y = 2} (pow_pos j)).1 (subst (λ (x : ℕ). k < x) (pow-succ' 2 j) t.3) in
-    ap (λ (i : ℕ). k / 2 ^ i) e ∙ omega (arith, low, high)
+top_bit : (k j : ℕ) → 2 ^ j ≤ k → k < 2 * 2 ^ j → k / 2 ^ j ≡ 1
+top_bit k j le lt =
+    let low : 1 ≤ k / 2 ^ j = le-div 1 k (2 ^ j) (pow_pos j) (omega arith) in
+    let high : k / 2 ^ j < 2 = (div-lt_iff_lt-mul {k = 2 ^ j} {x = k} {y = 2} (pow_pos j)).1 lt in
+    omega (arith, low, high)
 
 -- one more bit of k
 module _ (k i : ℕ) (pos : 0 < i) where
@@ -52,11 +47,8 @@ pub loop-i-init : goal.loop-i-init
 loop-i-init g c =
     let b = g.R.BlockRing in
     let half = c.args.m / 2 in
-    let pos : 0 < half = omega arith in
-    let m_fits = c.ranges.m.fits in
-    let fits : half < 2 ^ 64 = omega (arith, m_fits) in
     subst (λ (k : ℕ). Summed b.ring (b.value c.args.tau) k (b.value c.one-one.result) (b.value c.args.tau))
-    (sym (top_bit half pos fits))
+    (sym (top_bit half c.ilog2-i.result c.ilog2-i.ensures.power_le c.ilog2-i.ensures.next_power_gt))
     (summed_one b.ring (b.value c.args.tau) (b.value c.one-one.result) (g.met.R.BlockRing.below c.args.tau) c.one-one.ensures)
 
 pub times_first_powers-requires : goal.times_first_powers-requires

@@ -1,15 +1,10 @@
-use Rattle.std.proofs.Common.{ℕ, ◌/◌, ◌%◌, ◌<◌, length, get_or, ◌∙◌, subst, rules}
-use Rattle.std.proofs.lemmas.Nat.{mod_below}
+use Rattle.std.proofs.Common.{ℕ, ◌<◌, get_or, subst, rules}
 use Rattle.std.proofs.ByRecursion.{All-from_get_or}
 use Rattle.rings.specs.Ring.{size}
-use Rattle.passes.specs.Passes.{whitened}
-use Rattle.passes.specs.Sector.{parted}
-use Rattle.passes.proofs.Parts.{parted_sound, stage}
-use Rattle.passes.proofs.Stages.{whitened_sound}
 use Rattle.tet.specs.Keys.{key_of}
-use Rattle.tet_theory.specs.Tet.{blended, crypted}
+use Rattle.tet.proofs.Steps.{passed}
+use Rattle.tet_theory.specs.Tet.{blended}
 use Rattle.tet_theory.proofs.Blends.{blended_sound}
-use Rattle.tet_theory.proofs.Lasts.{crypted_sound}
 use Rattle.tet.proofs.stages.encipher_sector.Goals as goal
 
 pub returns : goal.returns
@@ -24,23 +19,7 @@ returns g c =
     let under = All-from_get_or (λ (d : ℕ). d < 256) bs 0 (λ i _. bytes i) in
     let low : (x : ℕ) → x < size r → f x < size r =
     subst (λ r. (x : ℕ) → x < size r → f x < size r) g.met.C.BlockCipher.over (λ x l. k.kind.encipher_block key x (g.C.BlockCipher.fitting c.args.cipher.now) l) in
-    let n = length bs / r.width in
-    let t = length bs % r.width in
-    let short = mod_below (length bs) r.width r.some in
     let h = key_of m.value c.args.hash in
-    let β = m.value c.args.beta in
-    let s0 = parted r.width bs in
-    let o0 = parted_sound r bs under in
-    let s1 = blended r h s0 in
-    let o1 = blended_sound r n t short h s0 o0 in
-    let s2 = whitened r β s1 in
-    let o2 = whitened_sound r n t β s1 o1 in
-    let s3 = crypted r f s2 in
-    let o3 = crypted_sound r f low n t s2 o2 in
-    let s4 = whitened r β s3 in
-    let o4 = whitened_sound r n t β s3 o3 in
-    let e1 = c.blend.ensures in
-    let e2 = c.whiten.ensures.sector_is_whitened ∙ stage r n t short c.blend.new.sector s1 (whitened r β) e1 o1 in
-    let e3 = c.encipher_blocks.ensures ∙ stage r n t short c.whiten.new.sector s2 (crypted r f) e2 o2 in
-    let e4 = c.whiten-2.ensures.sector_is_whitened ∙ stage r n t short c.encipher_blocks.new.sector s3 (whitened r β) e3 o3 in
-    c.blend-2.ensures ∙ stage r n t short c.whiten-2.new.sector s4 (blended r h) e4 o4
+    passed r f low (m.value c.args.beta) (blended r h) (λ m t short. blended_sound r m t short h)
+    bs c.blend.new.sector c.whiten.new.sector c.encipher_each.new.sector c.crypt_tail.new.sector c.whiten-2.new.sector c.blend-2.new.sector
+    under c.blend.ensures c.whiten.ensures.sector_is_whitened c.encipher_each.ensures.blocks_are_enciphered (c.crypt_tail.ensures f (λ x y h. search rules)) c.whiten-2.ensures.sector_is_whitened c.blend-2.ensures

@@ -6,8 +6,8 @@ use Rattle.words.proofs.Word.lowered.Goals as goal
 grown : (i : ℕ) → i + 1 ≡ suc i
 grown i = omega arith
 
-pub loop-i-preserved : goal.loop-i-preserved
-loop-i-preserved g c =
+pub loop-preserved : goal.loop-preserved
+loop-preserved g c =
     let x = g.Self.Word.value c.args.self in
-    let i = c.loop-i.i in
-    c.halved-low.ensures ∙ ap (λ (n : ℕ). n / 2) c.loop-i.invariant ∙ div-div-eq-div-mul x (2 ^ i) 2 ∙ ap (λ (n : ℕ). x / n) (sym (ap (λ (n : ℕ). 2 ^ n) (grown i) ∙ pow-suc 2 i))
+    let i = c.loop.counter in
+    c.halved-low.ensures ∙ ap (λ (n : ℕ). n / 2) c.loop.invariant ∙ div-div-eq-div-mul x (2 ^ i) 2 ∙ ap (λ (n : ℕ). x / n) (sym (ap (λ (n : ℕ). 2 ^ n) (grown i) ∙ pow-suc 2 i))

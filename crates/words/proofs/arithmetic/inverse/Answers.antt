@@ -62,7 +62,8 @@ order g c =
     elim c.if-is_below.branch [
       | then-is_below w ↦
           euclid_exchanges m.size low a u v (m.value c.loop-low.g) (m.value c.loop-low.h) _ _ _ _ c.loop-low.invariant.0 some
-          (ltb-true u v (sym w.if-is_below.ensures)) (ap m.value w.u-is) (ap m.value w.v-is) (ap m.value w.g-is) (ap m.value w.h-is)
+          (ltb-true u v (sym w.if-is_below.ensures)) (ap m.value (w.u-is ∙ w.swap.ensures.x_after)) (ap m.value (w.v-is ∙ w.swap.ensures.y_after))
+          (ap m.value (w.g-is ∙ w.swap-then-is_below.ensures.x_after)) (ap m.value (w.h-is ∙ w.swap-then-is_below.ensures.y_after))
       | else-is_below w ↦
           euclid_stays m.size low a u v (m.value c.loop-low.g) (m.value c.loop-low.h) _ _ _ _ c.loop-low.invariant.0 c.loop-low.invariant.1
           (ltb-false u v (sym w.if-is_below.ensures)) (ap m.value w.u-is) (ap m.value w.v-is) (ap m.value w.g-is) (ap m.value w.h-is)

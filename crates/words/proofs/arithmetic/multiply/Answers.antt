@@ -1,4 +1,4 @@
-use Rattle.std.proofs.Common.{◌≡◌, ◌+◌, ◌-◌, ◌*◌, ◌/◌, ◌≤◌, arith}
+use Rattle.std.proofs.Common.{◌≡◌, ◌+◌, ◌-◌, ◌*◌, ◌≤◌, arith}
 use Rattle.words.proofs.Turns.{horner_begins, horner_turns}
 use Rattle.words.proofs.arithmetic.multiply.Goals as goal
 
@@ -7,7 +7,7 @@ loop-i-init g c =
     let m = g.W.Word in
     let laws = g.met.W.Word in
     let some = laws.some in
-    let all : m.size ≤ 8 * ((c.bits.result - 1) / 8 + 1) = omega (arith, some, c.bits.ensures) in
+    let all : m.size ≤ 8 * c.div_ceil-i.result = omega (arith, c.bits.ensures, c.div_ceil-i.ensures) in
     horner_begins m.size (m.value c.args.low) some (laws.below c.args.low) (m.value c.args.a) (m.value c.args.b) _ (m.value c.zero-sum.result)
     (laws.below c.args.b) all c.zero-sum.ensures
 

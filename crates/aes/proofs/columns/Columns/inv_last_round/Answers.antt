@@ -1,11 +1,13 @@
-use Rattle.std.proofs.Common.{ap, ◌∙◌}
+use Rattle.std.proofs.Common.{◌≡◌, slice_index, rules, ap, ◌∙◌}
 use Rattle.aes.specs.Aes.{add_round_key}
-use Rattle.aes.specs.Columns.{state}
-use Rattle.aes.proofs.Rounds.{inv_shifted}
+use Rattle.aes.specs.Columns.{substituted, state}
+use Rattle.aes.proofs.Rounds.{each_back, inv_shifted}
+use Rattle.aes.proofs.States.{same_state}
 use Rattle.aes.proofs.columns.Columns.inv_last_round.Goals as goal
 
 pub returns : goal.returns
 returns c =
-    c.add_round_key.ensures
-    ∙ ap (add_round_key c.args.w.now 0)
-    (inv_shifted (state c.args.self) _ _ _ _ c.inv_substitute.ensures c.inv_substitute-2.ensures c.inv_substitute-3.ensures c.inv_substitute-4.ensures)
+    let table = c.inv_substitution-table.result.now in
+    let s = state c.args.self in
+    let made : state c.of_each.result ≡ each_back (substituted (slice_index table)) s = same_state _ _ (search rules) (search rules) (search rules) (search rules) in
+    c.add_round_key.ensures ∙ ap (add_round_key c.args.w.now 0) (made ∙ inv_shifted table s c.inv_substitution-table.ensures)

@@ -1,11 +1,13 @@
-use Rattle.std.proofs.Common.{ap, ◌∙◌}
+use Rattle.std.proofs.Common.{◌≡◌, slice_index, rules, ap, ◌∙◌}
 use Rattle.aes.specs.Aes.{add_round_key}
-use Rattle.aes.specs.Columns.{state}
-use Rattle.aes.proofs.Rounds.{inv_mixed}
+use Rattle.aes.specs.Columns.{mixed, state}
+use Rattle.aes.proofs.Rounds.{each_back, inv_mixed_shifted}
+use Rattle.aes.proofs.States.{same_state}
 use Rattle.aes.proofs.columns.Columns.inv_round.Goals as goal
 
 pub returns : goal.returns
 returns c =
-    c.add_round_key.ensures
-    ∙ ap (add_round_key c.args.dw.now c.args.round)
-    (inv_mixed (state c.args.self) _ _ _ _ c.inv_round_column.ensures c.inv_round_column-2.ensures c.inv_round_column-3.ensures c.inv_round_column-4.ensures)
+    let table = c.inv_round-table.result.now in
+    let s = state c.args.self in
+    let made : state c.of_each.result ≡ each_back (mixed (slice_index table)) s = same_state _ _ (search rules) (search rules) (search rules) (search rules) in
+    c.add_round_key.ensures ∙ ap (add_round_key c.args.dw.now c.args.round) (made ∙ inv_mixed_shifted table s c.inv_round-table.ensures)

@@ -1,11 +1,13 @@
-use Rattle.std.proofs.Common.{ap, ◌∙◌}
+use Rattle.std.proofs.Common.{◌≡◌, slice_index, rules, ap, ◌∙◌}
 use Rattle.aes.specs.Aes.{add_round_key}
-use Rattle.aes.specs.Columns.{state}
-use Rattle.aes.proofs.Rounds.{shifted}
+use Rattle.aes.specs.Columns.{substituted, state}
+use Rattle.aes.proofs.Rounds.{each, shifted}
+use Rattle.aes.proofs.States.{same_state}
 use Rattle.aes.proofs.columns.Columns.last_round.Goals as goal
 
 pub returns : goal.returns
 returns c =
-    c.add_round_key.ensures
-    ∙ ap (add_round_key c.args.w.now 10)
-    (shifted (state c.args.self) _ _ _ _ c.substitute.ensures c.substitute-2.ensures c.substitute-3.ensures c.substitute-4.ensures)
+    let table = c.substitution-table.result.now in
+    let s = state c.args.self in
+    let made : state c.of_each.result ≡ each (substituted (slice_index table)) s = same_state _ _ (search rules) (search rules) (search rules) (search rules) in
+    c.add_round_key.ensures ∙ ap (add_round_key c.args.w.now 10) (made ∙ shifted table s c.substitution-table.ensures)

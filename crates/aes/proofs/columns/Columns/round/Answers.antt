@@ -1,11 +1,13 @@
-use Rattle.std.proofs.Common.{ap, ◌∙◌}
+use Rattle.std.proofs.Common.{◌≡◌, slice_index, rules, ap, ◌∙◌}
 use Rattle.aes.specs.Aes.{add_round_key}
-use Rattle.aes.specs.Columns.{state}
-use Rattle.aes.proofs.Rounds.{mixed}
+use Rattle.aes.specs.Columns.{mixed, state}
+use Rattle.aes.proofs.Rounds.{each, mixed_shifted}
+use Rattle.aes.proofs.States.{same_state}
 use Rattle.aes.proofs.columns.Columns.round.Goals as goal
 
 pub returns : goal.returns
 returns c =
-    c.add_round_key.ensures
-    ∙ ap (add_round_key c.args.w.now c.args.round)
-    (mixed (state c.args.self) _ _ _ _ c.round_column.ensures c.round_column-2.ensures c.round_column-3.ensures c.round_column-4.ensures)
+    let table = c.round-table.result.now in
+    let s = state c.args.self in
+    let made : state c.of_each.result ≡ each (mixed (slice_index table)) s = same_state _ _ (search rules) (search rules) (search rules) (search rules) in
+    c.add_round_key.ensures ∙ ap (add_round_key c.args.w.now c.args.round) (made ∙ mixed_shifted table s c.round-table.ensures)

@@ -1,25 +1,8 @@
-use Rattle.std.proofs.Common.{◌≡◌, length, rules}
-use Rattle.fault_lists.proofs.Tables.{enters, answers, stays_full, refuses_full}
+use Rattle.std.proofs.Common.{sym}
+use Rattle.fault_lists.proofs.Holds.{once_pushed}
 use Rattle.fault_lists.proofs.table.Table.enter.Goals as goal
 
-pub returns-then-self-ge-ROOM : goal.returns-then-self-ge-ROOM
-returns-then-self-ge-ROOM c =
-    let t = c.args.self.now in
-    let n : length t.numbers ≡ 64 = search rules in
-    let all = c.if-self-ge-ROOM.true in
-    let new = c.if-holds.ensures in
-    record {
-      call_is_answered = refuses_full t c.args.number n all new;
-      number_is_entered = stays_full t c.args.number n all new;
-    }
-
-pub returns : goal.returns
-returns c =
-    let t = c.args.self.now in
-    let n : length t.numbers ≡ 64 = search rules in
-    let more = c.if-self-ge-ROOM.false in
-    let new = c.if-holds.ensures in
-    record {
-      call_is_answered = answers t c.args.number n more new;
-      number_is_entered = enters t c.args.number n more new;
-    }
+pub invariant_of-self : goal.invariant_of-self
+invariant_of-self c = record {
+  once = once_pushed c.try_push.result c.args.self.now.numbers c.try_push.new.self c.args.number c.args.self.now.once (sym c.if-holds.ensures) c.try_push.ensures.ok c.try_push.ensures.err;
+}

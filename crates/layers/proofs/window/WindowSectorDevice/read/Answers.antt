@@ -1,6 +1,6 @@
 use Rattle.std.proofs.Common.{◌+◌, length, refl, ap, ◌∙◌, arith}
 use Rattle.devices.specs.Faults.{passed_up}
-use Rattle.devices.proofs.Answers.{passed, allows}
+use Rattle.devices.proofs.Answers.{allows}
 use Rattle.devices.proofs.Passes.{answer_passed, read_passed}
 use Rattle.layers.specs.Window.{window_of}
 use Rattle.layers.proofs.Windows.{shows}
@@ -13,8 +13,8 @@ overflow_add-self g c =
     let layer = window_of w.start w.wanted in
     let s = c.args.sector in
     let buffer = c.args.buffer.now in
-    let ok = passed (layer m) s _ _ (length buffer) c.count.ensures c.size.ensures c.in_ok-check.ensures in
-    let below = (allows _ _ s (length buffer) ok).below in
+    let ok = c.in_ok-admit.ensures in
+    let below = (allows (length (layer m).sectors) m.size s (length buffer) ok).below in
     let sh = shows w.start w.wanted m s below in
     omega (arith, sh.below, (g.D.SectorDevice.sound w.device).countable)
 
@@ -25,8 +25,8 @@ returns g c =
     let layer = window_of w.start w.wanted in
     let s = c.args.sector in
     let buffer = c.args.buffer.now in
-    let ok = passed (layer m) s _ _ (length buffer) c.count.ensures c.size.ensures c.in_ok-check.ensures in
-    let below = (allows _ _ s (length buffer) ok).below in
+    let ok = c.in_ok-admit.ensures in
+    let below = (allows (length (layer m).sectors) m.size s (length buffer) ok).below in
     let sh = shows w.start w.wanted m s below in
     record {
       call_is_answered = c.pass_up.ensures ∙ ap passed_up c.read.ensures.call_is_answered ∙ answer_passed (layer m) m s (w.start + s) sh (length buffer) ok;

@@ -1,7 +1,7 @@
 use Rattle.std.proofs.Common.{◌≡◌, length, Ok, Err, sym, refl, ap, ◌∙◌, rules}
 use Rattle.devices.specs.Faults.{Answer, passed_up, by_answer}
 use Rattle.devices.specs.Device.{sector_at, bytes_of, answer}
-use Rattle.devices.proofs.Answers.{passed, read_refused, read_accepted}
+use Rattle.devices.proofs.Answers.{read_refused, read_accepted}
 use Rattle.volumes.specs.Volume.{view, volume_of, with_device, serving, mode_check, deciphered_by}
 use Rattle.volumes.proofs.Shown.{answer_is, below_answers, fits, in_turn, read_is, refused_closed, refused_unready, told_below, unpassed}
 use Rattle.volumes.proofs.sectors.VolumeSectorDevice.read.Goals as goal
@@ -12,7 +12,7 @@ returns-in_err-check_open g c =
     let v = view g.D.SectorDevice.meaning g.M.WideMode.state c.args.self.now in
     let i = c.args.sector in
     let buffer = c.args.buffer.now in
-    let ok = passed (volume_of k v) i _ _ (length buffer) c.count.ensures c.size.ensures c.in_ok-check.ensures in
+    let ok = c.in_ok-admit.ensures in
     let fault = c.in_err-check_open.field-0.0 in
     let said : c.from_residual-in_err-check_open.result ≡ Err fault = search rules in
     let told : Err fault ≡ answer (volume_of k v) i (length buffer) = refused_closed k v i fault c.in_err-check_open.ensures ∙ sym (answer_is k v i (length buffer) ok) in
@@ -24,7 +24,7 @@ returns-in_err-decipher g c =
     let v = view g.D.SectorDevice.meaning g.M.WideMode.state c.args.self.now in
     let i = c.args.sector in
     let buffer = c.args.buffer.now in
-    let ok = passed (volume_of k v) i _ _ (length buffer) c.count.ensures c.size.ensures c.in_ok-check.ensures in
+    let ok = c.in_ok-admit.ensures in
     let bytes = c.read-below.new.buffer in
     let fault = c.in_err-decipher.field-0.0 in
     let said : c.from_residual-in_err-decipher.result ≡ Err fault = search rules in
@@ -41,7 +41,7 @@ returns-in_err-pass_up g c =
     let v = view g.D.SectorDevice.meaning g.M.WideMode.state c.args.self.now in
     let i = c.args.sector in
     let buffer = c.args.buffer.now in
-    let ok = passed (volume_of k v) i _ _ (length buffer) c.count.ensures c.size.ensures c.in_ok-check.ensures in
+    let ok = c.in_ok-admit.ensures in
     let bytes = c.read-below.new.buffer in
     let fault = c.in_err-pass_up.field-0.0 in
     let said : c.from_residual-in_err-pass_up.result ≡ Err fault = search rules in
@@ -63,7 +63,7 @@ returns g c =
     let v = view g.D.SectorDevice.meaning g.M.WideMode.state c.args.self.now in
     let i = c.args.sector in
     let buffer = c.args.buffer.now in
-    let ok = passed (volume_of k v) i _ _ (length buffer) c.count.ensures c.size.ensures c.in_ok-check.ensures in
+    let ok = c.in_ok-admit.ensures in
     let bytes = c.read-below.new.buffer in
     let long : length bytes ≡ length buffer = search rules in
     let ready : Ok tt ≡ mode_check (serving v i) v.device.size i =

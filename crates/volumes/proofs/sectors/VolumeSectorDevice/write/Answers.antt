@@ -1,7 +1,7 @@
 use Rattle.std.proofs.Common.{◌≡◌, ◌^◌, ◌<◌, length, Ok, Err, sym, ap, ◌∙◌, arith, rules}
 use Rattle.devices.specs.Faults.{Answer, passed_up, by_answer}
 use Rattle.devices.specs.Device.{written, answer}
-use Rattle.devices.proofs.Answers.{passed, write_refused}
+use Rattle.devices.proofs.Answers.{write_refused}
 use Rattle.volumes.specs.Sounds.{serving_fits}
 use Rattle.volumes.specs.Volume.{view, volume_of, with_device, serving, mode_check, enciphered_by}
 use Rattle.volumes.proofs.Shown.{answer_is, below, below_answers, fits, refused_closed, refused_unready, told_below, passed_on, write_meaning}
@@ -13,7 +13,7 @@ returns-in_err-check_open g c =
     let v = view g.D.SectorDevice.meaning g.M.WideMode.state c.args.self.now in
     let i = c.args.sector in
     let buffer = c.args.buffer.now in
-    let ok = passed (volume_of k v) i _ _ (length buffer) c.count.ensures c.size.ensures c.in_ok-check.ensures in
+    let ok = c.in_ok-admit.ensures in
     let fault = c.in_err-check_open.field-0.0 in
     let said : c.from_residual-in_err-check_open.result ≡ Err fault = search rules in
     let told : Err fault ≡ answer (volume_of k v) i (length buffer) = refused_closed k v i fault c.in_err-check_open.ensures ∙ sym (answer_is k v i (length buffer) ok) in
@@ -29,7 +29,7 @@ returns-in_err-encipher g c =
     let v = view g.D.SectorDevice.meaning g.M.WideMode.state c.args.self.now in
     let i = c.args.sector in
     let buffer = c.args.buffer.now in
-    let ok = passed (volume_of k v) i _ _ (length buffer) c.count.ensures c.size.ensures c.in_ok-check.ensures in
+    let ok = c.in_ok-admit.ensures in
     let bytes = c.copy_from_slice.new.self in
     let fault = c.in_err-encipher.field-0.0 in
     let said : c.from_residual-in_err-encipher.result ≡ Err fault = search rules in
@@ -49,7 +49,7 @@ returns g c =
     let v = view g.D.SectorDevice.meaning g.M.WideMode.state c.args.self.now in
     let i = c.args.sector in
     let buffer = c.args.buffer.now in
-    let ok = passed (volume_of k v) i _ _ (length buffer) c.count.ensures c.size.ensures c.in_ok-check.ensures in
+    let ok = c.in_ok-admit.ensures in
     let bytes = c.copy_from_slice.new.self in
     let mid = c.encipher.new.buffer in
     let copied : bytes ≡ buffer = c.copy_from_slice.ensures.after in

@@ -1,6 +1,0 @@
-use Rattle.std.proofs.Common.{◌%◌, ◌^◌, sym, ◌∙◌, mod-lt, lit<, pow_pos}
-use Rattle.polynomials.proofs.Quotient.{product_alpha}
-use Rattle.rings.proofs.modular.U64BlockRing.times_alpha.Goals as goal
-
-pub returns : goal.returns
-returns c = c.xtime.ensures ∙ sym (product_alpha 64 27 (lit< tt) (lit< tt) (c.args.self % 2 ^ 64) (mod-lt c.args.self (pow_pos 64)))
