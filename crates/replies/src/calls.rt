@@ -41,13 +41,8 @@ fn steps<D: SectorDevice, M: WideMode>(
     ensures steps_are_answered { result ≡ steps_answer M.kind (view D.meaning M.state volume.old) count }
     ensures steps_are_made { view D.meaning M.state volume.new ≡ after_steps M.kind (view D.meaning M.state volume.old) count }
 {
-    let mut left = count;
-    while left > 0 {
-        let answer = volume.step();
-        if answer.is_err() {
-            return answer;
-        }
-        left -= 1;
+    for _ in 0..count {
+        volume.step()?;
     }
     Ok(())
 }
@@ -71,7 +66,7 @@ pub fn read<D: SectorDevice, M: WideMode>(
 {
     let size = volume.size() as usize;
     let mut scratch = [0; LARGEST];
-    let buffer = &mut scratch[0..size];
+    let buffer = &mut scratch[..size];
     match volume.read(sector, buffer) {
         Ok(()) => {
             let bytes = Vec::from_slice(heap, buffer)?;
