@@ -4,6 +4,7 @@ ghost use Rattle.commands.specs.declared.command.Wrong.TheVariants.{NoMemory};
 
 use records::{Cipher, Mode};
 use std::alloc::AllocError;
+use std::error::Error;
 use std::fmt;
 
 /// What a line asks for. `B` is what bytes and paths are held in.
@@ -30,7 +31,7 @@ pub enum Command<B> {
 }
 
 /// What is wrong with a line.
-#[derive(Clone, Copy)]
+#[derive(Clone, Copy, Debug)]
 pub enum Wrong {
     NoSuchCommand,
     WrongWords,
@@ -69,6 +70,8 @@ impl fmt::Display for Wrong {
         }
     }
 }
+
+impl Error for Wrong {}
 
 impl From<AllocError> for Wrong {
     ghost from_gives = { λ _ wrong. wrong ≡ NoMemory };

@@ -1,6 +1,6 @@
 //! What answers commands: nothing yet, an image with its fault list, or a volume.
 
-use crate::asker::Asker;
+use crate::asking::Session;
 use crate::terminal::Terminal;
 use commands::answer::Answer;
 use commands::command::{Command, Wrong};
@@ -24,7 +24,7 @@ pub trait Served {
     /// The reply to a command, or none where the command asks for another to serve.
     fn reply<T: Terminal>(
         &mut self,
-        asker: &mut Asker<'_, T>,
+        session: &mut Session<'_, T>,
         command: &Command<Vec<u8>>,
     ) -> io::Result<Option<Reply>>;
 }
@@ -49,7 +49,7 @@ pub struct Nothing;
 impl Served for Nothing {
     fn reply<T: Terminal>(
         &mut self,
-        _asker: &mut Asker<'_, T>,
+        _session: &mut Session<'_, T>,
         command: &Command<Vec<u8>>,
     ) -> io::Result<Option<Reply>> {
         match command {
@@ -62,15 +62,15 @@ impl Served for Nothing {
 impl Served for FaultList<Image<'_>> {
     fn reply<T: Terminal>(
         &mut self,
-        asker: &mut Asker<'_, T>,
+        session: &mut Session<'_, T>,
         command: &Command<Vec<u8>>,
     ) -> io::Result<Option<Reply>> {
         let reply = match command {
             Command::Image { .. } | Command::Volume { .. } => return Ok(None),
             Command::Fault { sector } => Ok(entered(self.enter(*sector))),
-            Command::Show => shown(asker.heap, self.device().bytes()),
+            Command::Show => shown(session.heap, self.device().bytes()),
             Command::Save { path } => {
-                save(asker.terminal, path.as_slice(), self.device().bytes())
+                save(session.terminal, path.as_slice(), self.device().bytes())
             }
             _ => Err(Wrong::NoVolume),
         };
@@ -80,15 +80,6 @@ impl Served for FaultList<Image<'_>> {
 
 fn stored<'v, M: WideMode>(volume: &'v Volume<FaultList<Image>, M>) -> &'v [u8] {
     volume.device().device().bytes()
-}
-
-fn read<M: WideMode>(
-    heap: Global,
-    volume: &mut Volume<FaultList<Image>, M>,
-    sector: u32,
-) -> Reply {
-    let answer = calls::read(heap, volume, sector)?;
-    Ok(answer)
 }
 
 /// Makes steps, and tells the progress of many.
@@ -111,19 +102,21 @@ fn step<T: Terminal, M: WideMode>(
 impl<M: WideMode> Served for Volume<FaultList<Image<'_>>, M> {
     fn reply<T: Terminal>(
         &mut self,
-        asker: &mut Asker<'_, T>,
+        session: &mut Session<'_, T>,
         command: &Command<Vec<u8>>,
     ) -> io::Result<Option<Reply>> {
         let reply = match command {
             Command::Image { .. } | Command::Volume { .. } => return Ok(None),
             Command::Open { key } => Ok(calls::open(self, key.as_slice())),
-            Command::Read { sector } => read(asker.heap, self, *sector),
+            Command::Read { sector } => {
+                calls::read(session.heap, self, *sector).map_err(Wrong::from)
+            }
             Command::Write { sector, bytes } => Ok(calls::write(self, *sector, bytes.as_slice())),
             Command::Begin { key } => Ok(calls::begin(self, key.as_slice())),
-            Command::Step { count } => Ok(step(asker.terminal, self, *count)?),
+            Command::Step { count } => Ok(step(session.terminal, self, *count)?),
             Command::Report => Ok(calls::report(self)),
-            Command::Show => shown(asker.heap, stored(self)),
-            Command::Save { path } => save(asker.terminal, path.as_slice(), stored(self)),
+            Command::Show => shown(session.heap, stored(self)),
+            Command::Save { path } => save(session.terminal, path.as_slice(), stored(self)),
             _ => Err(Wrong::FaultAfterVolume),
         };
         Ok(Some(reply))

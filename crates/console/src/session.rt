@@ -1,6 +1,6 @@
 //! Serves the commands of a terminal: first without an image, then on an image with its fault list, then on a volume.
 
-use crate::asker::Asker;
+use crate::asking::Session;
 use crate::served::{Nothing, Served};
 use crate::terminal::Terminal;
 use aes::Aes128;
@@ -45,7 +45,7 @@ fn held(heap: Global, list: &FaultList<Image>) -> Result<Vec<u32>, AllocError> {
     places.iter().copied().take(count).collect(heap)
 }
 
-impl<T: Terminal> Asker<'_, T> {
+impl<T: Terminal> Session<'_, T> {
     /// Serves commands, up to one that asks for another to serve.
     fn serve<S: Served>(&mut self, served: &mut S) -> io::Result<Option<Command<Vec<u8>>>> {
         for _ in 0..u64::MAX {
@@ -129,13 +129,13 @@ impl<T: Terminal> Asker<'_, T> {
 
 /// Serves the commands of a terminal until there are no more lines.
 pub fn run<T: Terminal>(heap: Global, terminal: &mut T) -> io::Result<()> {
-    let mut asker = Asker { heap, terminal };
-    let mut ended = asker.serve(&mut Nothing)?;
+    let mut session = Session { heap, terminal };
+    let mut ended = session.serve(&mut Nothing)?;
     for _ in 0..u64::MAX {
         let Some(Command::Image { size, bytes }) = ended else {
             break;
         };
-        ended = asker.serve_image(size, bytes)?;
+        ended = session.serve_image(size, bytes)?;
     }
     Ok(())
 }

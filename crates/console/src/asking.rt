@@ -9,12 +9,12 @@ use std::io;
 
 /// A terminal, and the heap for what it asks and is told.
 #[derive(Drop)]
-pub struct Asker<'a, T> {
+pub struct Session<'a, T> {
     pub heap: Global,
     pub terminal: &'a mut T,
 }
 
-impl<T: Terminal> Asker<'_, T> {
+impl<T: Terminal> Session<'_, T> {
     /// Tells an answer, or what is wrong.
     pub fn tell(&mut self, answer: Result<Answer<Vec<u8>>, Wrong>) -> io::Result<()> {
         let answer = answer.unwrap_or_else(Answer::Wrong);
