@@ -6,6 +6,7 @@ ghost use Rattle.aes.specs.Columns.{Unmixed};
 ghost use Rattle.aes.specs.Laws.{Tabulates};
 
 use crate::steps;
+use std::array;
 
 /// Rcon[1] .. Rcon[10]
 const RCON: [u32; 10] = [
@@ -51,5 +52,5 @@ pub(crate) fn expand(key: &[u8; 16]) -> [u32; 44]
 pub(crate) fn unmix(w: &[u32; 44]) -> [u32; 44]
     ensures { Unmixed w.now result }
 {
-    w.map(steps::inv_mix_column)
+    array::from_fn(|i| steps::inv_mix_column(w[i]))
 }

@@ -32,10 +32,13 @@ pub(crate) fn substitute(table: &[u8; 256], a: u32, b: u32, c: u32, d: u32) -> u
 pub(crate) fn substitute_and_mix(table: &[u32; 256], a: u32, b: u32, c: u32, d: u32) -> u32
     ensures { result ≡ mixed (slice_index table.now) a b c d }
 {
-    table[byte(a, 0) as usize]
-        ^ table[byte(b, 1) as usize].rotate_right(8)
-        ^ table[byte(c, 2) as usize].rotate_right(16)
-        ^ table[byte(d, 3) as usize].rotate_right(24)
+    let (a, b, c, d) = (
+        table[byte(a, 0) as usize],
+        table[byte(b, 1) as usize],
+        table[byte(c, 2) as usize],
+        table[byte(d, 3) as usize],
+    );
+    a ^ b.rotate_right(8) ^ c.rotate_right(16) ^ d.rotate_right(24)
 }
 
 #[tactic(auto, unfolding(crate::specs::Aes::sub_word, crate::specs::Columns::substituted), using(crate::proofs::Rounds::substituted_by))]

@@ -1,9 +1,9 @@
 -- Which command a line stands for.
-use Rattle.std.specs.Prelude.{ℕ, cond, List, length, Some, None, Ok, Err, Option, Result, ◌==◌}
+use Rattle.std.specs.Prelude.{◌≡◌, ◌⊎◌, ℕ, cond, List, length, Some, None, Ok, Err, Option, Result, ◌==◌}
 use Rattle.commands.specs.declared.command.Command.{Command}
 use Rattle.commands.specs.declared.command.Command.TheVariants.{Image, Load, Fault, Volume, Open, Read, Write, Begin, Step, Report, Show, Save, Help}
 use Rattle.commands.specs.declared.command.Wrong.{Wrong}
-use Rattle.commands.specs.declared.command.Wrong.TheVariants.{NoSuchCommand, WrongWords, NotANumber, NotHexadecimal, NoSuchMode, NoSuchCipher}
+use Rattle.commands.specs.declared.command.Wrong.TheVariants.{NoSuchCommand, WrongWords, NotANumber, NotHexadecimal, NoSuchMode, NoSuchCipher, NoMemory}
 use Rattle.commands.specs.declared.names.Verb.{Verb}
 use Rattle.commands.specs.declared.names.Verb.TheVariants as verbs
 use Rattle.texts.specs.Words.{word_of, after_word}
@@ -31,9 +31,14 @@ listed f Show = Show
 listed f (Save path) = Save (f path)
 listed f Help = Help
 
-abbrev pub reading : {B : Type 0} → (B → List ℕ) → Result (Command B) Wrong → Reading
-reading f (Ok command) = Ok (listed f command)
+-- a result with its value seen as another
+abbrev pub reading : {X Y : Type 0} → (X → Y) → Result X Wrong → Result Y Wrong
+reading f (Ok x) = Ok (f x)
 reading f (Err wrong) = Err wrong
+
+-- it reads as this, or there was no memory for it
+abbrev pub ReadAs : {X Y : Type 0} → (X → Y) → Result X Wrong → Result Y Wrong → Type 0
+ReadAs f result wanted = (result ≡ Err NoMemory) ⊎ (reading f result ≡ wanted)
 
 -- a word that must be a number, bytes, a mode or a cipher
 abbrev pub needs : {X : Type 0} → Wrong → Option X → (X → Reading) → Reading
@@ -42,51 +47,29 @@ needs wrong (Some x) next = next x
 
 -- a command with no word behind it: a step alone is one step
 abbrev pub bare : Verb → Reading
-bare verbs.Image = Err WrongWords
-bare verbs.Load = Err WrongWords
-bare verbs.Fault = Err WrongWords
-bare verbs.Volume = Err WrongWords
-bare verbs.Open = Err WrongWords
-bare verbs.Read = Err WrongWords
-bare verbs.Write = Err WrongWords
-bare verbs.Begin = Err WrongWords
 bare verbs.Step = Ok (Step 1)
 bare verbs.Report = Ok Report
 bare verbs.Show = Ok Show
-bare verbs.Save = Err WrongWords
 bare verbs.Help = Ok Help
+bare verb = Err WrongWords
 
 -- with one word
 abbrev pub with_one : Verb → List ℕ → Reading
-with_one verbs.Image a = Err WrongWords
-with_one verbs.Load a = Err WrongWords
 with_one verbs.Fault a = needs NotANumber (number_of a) (λ n. Ok (Fault n))
-with_one verbs.Volume a = Err WrongWords
 with_one verbs.Open a = needs NotHexadecimal (bytes_of a) (λ key. Ok (Open key))
 with_one verbs.Read a = needs NotANumber (number_of a) (λ n. Ok (Read n))
-with_one verbs.Write a = Err WrongWords
 with_one verbs.Begin a = needs NotHexadecimal (bytes_of a) (λ key. Ok (Begin key))
 with_one verbs.Step a = needs NotANumber (number_of a) (λ n. Ok (Step n))
-with_one verbs.Report a = Err WrongWords
-with_one verbs.Show a = Err WrongWords
 with_one verbs.Save a = Ok (Save a)
-with_one verbs.Help a = Err WrongWords
+with_one verb a = Err WrongWords
 
 -- with two words
 abbrev pub with_two : Verb → List ℕ → List ℕ → Reading
 with_two verbs.Image a b = needs NotANumber (number_of a) (λ n. needs NotHexadecimal (bytes_of b) (λ bytes. Ok (Image n bytes)))
 with_two verbs.Load a b = needs NotANumber (number_of a) (λ n. Ok (Load n b))
-with_two verbs.Fault a b = Err WrongWords
 with_two verbs.Volume a b = needs NoSuchMode (mode_of a) (λ m. needs NoSuchCipher (cipher_of b) (λ c. Ok (Volume m c)))
-with_two verbs.Open a b = Err WrongWords
-with_two verbs.Read a b = Err WrongWords
 with_two verbs.Write a b = needs NotANumber (number_of a) (λ n. needs NotHexadecimal (bytes_of b) (λ bytes. Ok (Write n bytes)))
-with_two verbs.Begin a b = Err WrongWords
-with_two verbs.Step a b = Err WrongWords
-with_two verbs.Report a b = Err WrongWords
-with_two verbs.Show a b = Err WrongWords
-with_two verbs.Save a b = Err WrongWords
-with_two verbs.Help a b = Err WrongWords
+with_two verb a b = Err WrongWords
 
 -- one of two where a word is empty, that is, where there is none
 abbrev pub if_none : {X : Type 0} → List ℕ → X → X → X

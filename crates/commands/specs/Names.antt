@@ -3,10 +3,10 @@ use Rattle.std.specs.Prelude.{ℕ, cond, List, Some, None, codes, Option}
 use Rattle.std.specs.Str.{bytes_eq}
 use Rattle.commands.specs.declared.names.Verb.{Verb}
 use Rattle.commands.specs.declared.names.Verb.TheVariants as verbs
-use Rattle.commands.specs.declared.names.ModeName.{ModeName}
-use Rattle.commands.specs.declared.names.ModeName.TheVariants.{Tet, Heh}
-use Rattle.commands.specs.declared.names.CipherName.{CipherName}
-use Rattle.commands.specs.declared.names.CipherName.TheVariants.{Aes128, Xtea, Mask1, Mask8, Mask16}
+use Rattle.records.specs.declared.Mode.{Mode}
+use Rattle.records.specs.declared.Mode.TheVariants.{Tet, Heh}
+use Rattle.records.specs.declared.Cipher.{Cipher}
+use Rattle.records.specs.declared.Cipher.TheVariants.{Aes128, Xtea, Mask1, Mask8, Mask16}
 use Rattle.commands.specs.declared.names.CallWord.{CallWord}
 use Rattle.commands.specs.declared.names.CallWord.TheVariants as calls
 
@@ -30,10 +30,10 @@ verb_of word =
     (named word (codes "save") verbs.Save
     (named word (codes "help") verbs.Help None))))))))))))
 
-abbrev pub mode_of : List ℕ → Option ModeName
+abbrev pub mode_of : List ℕ → Option Mode
 mode_of word = named word (codes "tet") Tet (named word (codes "heh") Heh None)
 
-abbrev pub cipher_of : List ℕ → Option CipherName
+abbrev pub cipher_of : List ℕ → Option Cipher
 cipher_of word =
     named word (codes "aes-128") Aes128
     (named word (codes "xtea") Xtea

@@ -1,4 +1,11 @@
-use crate::names::{CipherName, ModeName};
+ghost use Rattle.std.specs.Prelude.{◌≡◌, Some};
+ghost use Rattle.commands.specs.Answers.{wrong_text};
+ghost use Rattle.commands.specs.declared.command.Wrong.TheVariants.{NoMemory};
+
+use records::{Cipher, Mode};
+use std::alloc::AllocError;
+use std::error::Error;
+use std::fmt;
 
 /// What a line asks for. `B` is what bytes and paths are held in.
 #[derive(Drop)]
@@ -10,7 +17,7 @@ pub enum Command<B> {
     /// A sector entered into the fault list.
     Fault { sector: u32 },
     /// A closed volume on the fault list.
-    Volume { mode: ModeName, cipher: CipherName },
+    Volume { mode: Mode, cipher: Cipher },
     Open { key: B },
     Read { sector: u32 },
     Write { sector: u32, bytes: B },
@@ -24,7 +31,7 @@ pub enum Command<B> {
 }
 
 /// What is wrong with a line.
-#[derive(Clone, Copy)]
+#[derive(Clone, Copy, Debug)]
 pub enum Wrong {
     NoSuchCommand,
     WrongWords,
@@ -38,4 +45,38 @@ pub enum Wrong {
     NoSuchFile,
     NotSaved,
     NoMemory,
+}
+
+impl fmt::Display for Wrong {
+    ghost output = { λ wrong. Some (wrong_text wrong) };
+
+    fn fmt<W: fmt::Write>(&self, f: &mut fmt::Formatter<W>) -> fmt::Result {
+        match self {
+            Wrong::NoSuchCommand => write!(f, "no such command; try help"),
+            Wrong::WrongWords => write!(f, "too few words or too many"),
+            Wrong::NotANumber => write!(f, "not a number below 4294967296"),
+            Wrong::NotHexadecimal => write!(f, "not bytes in hexadecimal"),
+            Wrong::NoSuchMode => write!(f, "the modes are tet and heh"),
+            Wrong::NoSuchCipher => write!(
+                f,
+                "the ciphers are aes-128, xtea, mask-1, mask-8 and mask-16"
+            ),
+            Wrong::NoImage => write!(f, "there is no image"),
+            Wrong::NoVolume => write!(f, "there is no volume"),
+            Wrong::FaultAfterVolume => write!(f, "faults come before the volume"),
+            Wrong::NoSuchFile => write!(f, "the file cannot be read"),
+            Wrong::NotSaved => write!(f, "the file cannot be written"),
+            Wrong::NoMemory => write!(f, "there is not enough memory"),
+        }
+    }
+}
+
+impl Error for Wrong {}
+
+impl From<AllocError> for Wrong {
+    ghost from_gives = { λ _ wrong. wrong ≡ NoMemory };
+
+    fn from(_error: AllocError) -> Wrong {
+        Self::NoMemory
+    }
 }

@@ -1,7 +1,8 @@
-ghost use Rattle.std.specs.Prelude.{◌≡◌};
+ghost use Rattle.std.specs.Prelude.{◌≡◌, Some};
 ghost use Rattle.commands.specs.Names.{verb_of, mode_of, cipher_of, call_word};
 
-use texts::words::is;
+use records::{Cipher, Mode};
+use std::fmt;
 
 /// The first word of a command.
 #[derive(Clone, Copy)]
@@ -21,23 +22,6 @@ pub enum Verb {
     Help,
 }
 
-/// The wide modes by name.
-#[derive(Clone, Copy)]
-pub enum ModeName {
-    Tet,
-    Heh,
-}
-
-/// The block ciphers by name.
-#[derive(Clone, Copy)]
-pub enum CipherName {
-    Aes128,
-    Xtea,
-    Mask1,
-    Mask8,
-    Mask16,
-}
-
 /// The commands that are refused by name.
 #[derive(Clone, Copy)]
 pub enum CallWord {
@@ -47,15 +31,15 @@ pub enum CallWord {
     Step,
 }
 
-impl CallWord {
-    pub fn word(self) -> &'static str
-        ensures { result.now ≡ call_word self }
-    {
+impl fmt::Display for CallWord {
+    ghost output = { λ call. Some (call_word call) };
+
+    fn fmt<W: fmt::Write>(&self, f: &mut fmt::Formatter<W>) -> fmt::Result {
         match self {
-            CallWord::Fault => "fault",
-            CallWord::Open => "open",
-            CallWord::Begin => "begin",
-            CallWord::Step => "step",
+            CallWord::Fault => write!(f, "fault"),
+            CallWord::Open => write!(f, "open"),
+            CallWord::Begin => write!(f, "begin"),
+            CallWord::Step => write!(f, "step"),
         }
     }
 }
@@ -64,65 +48,45 @@ impl CallWord {
 pub fn verb_of(word: &[u8]) -> Option<Verb>
     ensures { result ≡ verb_of word.now }
 {
-    if is(word, b"image") {
-        Some(Verb::Image)
-    } else if is(word, b"load") {
-        Some(Verb::Load)
-    } else if is(word, b"fault") {
-        Some(Verb::Fault)
-    } else if is(word, b"volume") {
-        Some(Verb::Volume)
-    } else if is(word, b"open") {
-        Some(Verb::Open)
-    } else if is(word, b"read") {
-        Some(Verb::Read)
-    } else if is(word, b"write") {
-        Some(Verb::Write)
-    } else if is(word, b"begin") {
-        Some(Verb::Begin)
-    } else if is(word, b"step") {
-        Some(Verb::Step)
-    } else if is(word, b"report") {
-        Some(Verb::Report)
-    } else if is(word, b"show") {
-        Some(Verb::Show)
-    } else if is(word, b"save") {
-        Some(Verb::Save)
-    } else if is(word, b"help") {
-        Some(Verb::Help)
-    } else {
-        None
+    match word {
+        b"image" => Some(Verb::Image),
+        b"load" => Some(Verb::Load),
+        b"fault" => Some(Verb::Fault),
+        b"volume" => Some(Verb::Volume),
+        b"open" => Some(Verb::Open),
+        b"read" => Some(Verb::Read),
+        b"write" => Some(Verb::Write),
+        b"begin" => Some(Verb::Begin),
+        b"step" => Some(Verb::Step),
+        b"report" => Some(Verb::Report),
+        b"show" => Some(Verb::Show),
+        b"save" => Some(Verb::Save),
+        b"help" => Some(Verb::Help),
+        _ => None,
     }
 }
 
 /// The mode of a word.
-pub fn mode_of(word: &[u8]) -> Option<ModeName>
+pub fn mode_of(word: &[u8]) -> Option<Mode>
     ensures { result ≡ mode_of word.now }
 {
-    if is(word, b"tet") {
-        Some(ModeName::Tet)
-    } else if is(word, b"heh") {
-        Some(ModeName::Heh)
-    } else {
-        None
+    match word {
+        b"tet" => Some(Mode::Tet),
+        b"heh" => Some(Mode::Heh),
+        _ => None,
     }
 }
 
 /// The cipher of a word.
-pub fn cipher_of(word: &[u8]) -> Option<CipherName>
+pub fn cipher_of(word: &[u8]) -> Option<Cipher>
     ensures { result ≡ cipher_of word.now }
 {
-    if is(word, b"aes-128") {
-        Some(CipherName::Aes128)
-    } else if is(word, b"xtea") {
-        Some(CipherName::Xtea)
-    } else if is(word, b"mask-1") {
-        Some(CipherName::Mask1)
-    } else if is(word, b"mask-8") {
-        Some(CipherName::Mask8)
-    } else if is(word, b"mask-16") {
-        Some(CipherName::Mask16)
-    } else {
-        None
+    match word {
+        b"aes-128" => Some(Cipher::Aes128),
+        b"xtea" => Some(Cipher::Xtea),
+        b"mask-1" => Some(Cipher::Mask1),
+        b"mask-8" => Some(Cipher::Mask8),
+        b"mask-16" => Some(Cipher::Mask16),
+        _ => None,
     }
 }

@@ -1,9 +1,13 @@
-ghost use Rattle.std.specs.Prelude.{◌≡◌, IfOk, vec_items};
-ghost use Rattle.commands.specs.Commands.{bare, with_one, with_two, with_words, with_rest, parsed, reading};
+ghost use Rattle.std.specs.Prelude.{◌≡◌, vec_items};
+ghost use Rattle.std.specs.Option.{ok_or};
+ghost use Rattle.texts.specs.Numbers.{number_of};
+ghost use Rattle.texts.specs.Hexadecimal.{bytes_of};
+ghost use Rattle.commands.specs.Commands.{bare, with_one, with_two, with_words, with_rest, parsed, listed, reading, ReadAs};
+ghost use Rattle.commands.specs.declared.command.Wrong.TheVariants.{NotANumber, NotHexadecimal};
 
 use crate::command::{Command, Wrong};
 use crate::names::{Verb, cipher_of, mode_of, verb_of};
-use std::alloc::{AllocError, Global};
+use std::alloc::Global;
 use texts::hexadecimal::bytes;
 use texts::numbers::number;
 use texts::words::cut_word;
@@ -11,8 +15,22 @@ use texts::words::cut_word;
 /// The command of a line, or what is wrong with it.
 pub type Reading = Result<Command<Vec<u8>>, Wrong>;
 
+/// A word that must be a number.
+fn needed_number(word: &[u8]) -> Result<u32, Wrong>
+    ensures { result ≡ ok_or (number_of word.now) NotANumber }
+{
+    number(word).ok_or(Wrong::NotANumber)
+}
+
+/// A word that must be bytes.
+fn needed_bytes(heap: Global, word: &[u8]) -> Result<Vec<u8>, Wrong>
+    ensures { ReadAs vec_items result (ok_or (bytes_of word.now) NotHexadecimal) }
+{
+    bytes(heap, word)?.ok_or(Wrong::NotHexadecimal)
+}
+
 fn bare(verb: Verb) -> Reading
-    ensures { reading vec_items result ≡ bare verb }
+    ensures { reading (listed vec_items) result ≡ bare verb }
 {
     match verb {
         Verb::Step => Ok(Command::Step { count: 1 }),
@@ -23,118 +41,82 @@ fn bare(verb: Verb) -> Reading
     }
 }
 
-fn with_one(heap: Global, verb: Verb, word: &[u8]) -> Result<Reading, AllocError>
-    ensures { IfOk result (λ c. reading vec_items c ≡ with_one verb word.now) }
+fn with_one(heap: Global, verb: Verb, word: &[u8]) -> Reading
+    ensures { ReadAs (listed vec_items) result (with_one verb word.now) }
 {
     match verb {
-        Verb::Fault => match number(word) {
-            Some(sector) => Ok(Ok(Command::Fault { sector })),
-            None => Ok(Err(Wrong::NotANumber)),
-        },
-        Verb::Read => match number(word) {
-            Some(sector) => Ok(Ok(Command::Read { sector })),
-            None => Ok(Err(Wrong::NotANumber)),
-        },
-        Verb::Step => match number(word) {
-            Some(count) => Ok(Ok(Command::Step { count })),
-            None => Ok(Err(Wrong::NotANumber)),
-        },
-        Verb::Open => match bytes(heap, word)? {
-            Some(key) => Ok(Ok(Command::Open { key })),
-            None => Ok(Err(Wrong::NotHexadecimal)),
-        },
-        Verb::Begin => match bytes(heap, word)? {
-            Some(key) => Ok(Ok(Command::Begin { key })),
-            None => Ok(Err(Wrong::NotHexadecimal)),
-        },
+        Verb::Fault => {
+            let sector = needed_number(word)?;
+            Ok(Command::Fault { sector })
+        }
+        Verb::Read => {
+            let sector = needed_number(word)?;
+            Ok(Command::Read { sector })
+        }
+        Verb::Step => {
+            let count = needed_number(word)?;
+            Ok(Command::Step { count })
+        }
+        Verb::Open => {
+            let key = needed_bytes(heap, word)?;
+            Ok(Command::Open { key })
+        }
+        Verb::Begin => {
+            let key = needed_bytes(heap, word)?;
+            Ok(Command::Begin { key })
+        }
         Verb::Save => {
             let path = Vec::from_slice(heap, word)?;
-            Ok(Ok(Command::Save { path }))
+            Ok(Command::Save { path })
         }
-        _ => Ok(Err(Wrong::WrongWords)),
+        _ => Err(Wrong::WrongWords),
     }
 }
 
-fn image(heap: Global, size: &[u8], text: &[u8]) -> Result<Reading, AllocError>
-    ensures { IfOk result (λ c. reading vec_items c ≡ with_two Verb.Image size.now text.now) }
-{
-    let Some(size) = number(size) else {
-        return Ok(Err(Wrong::NotANumber));
-    };
-    match bytes(heap, text)? {
-        Some(bytes) => Ok(Ok(Command::Image { size, bytes })),
-        None => Ok(Err(Wrong::NotHexadecimal)),
-    }
-}
-
-fn load(heap: Global, size: &[u8], path: &[u8]) -> Result<Reading, AllocError>
-    ensures { IfOk result (λ c. reading vec_items c ≡ with_two Verb.Load size.now path.now) }
-{
-    let Some(size) = number(size) else {
-        return Ok(Err(Wrong::NotANumber));
-    };
-    let path = Vec::from_slice(heap, path)?;
-    Ok(Ok(Command::Load { size, path }))
-}
-
-fn write(heap: Global, sector: &[u8], text: &[u8]) -> Result<Reading, AllocError>
-    ensures { IfOk result (λ c. reading vec_items c ≡ with_two Verb.Write sector.now text.now) }
-{
-    let Some(sector) = number(sector) else {
-        return Ok(Err(Wrong::NotANumber));
-    };
-    match bytes(heap, text)? {
-        Some(bytes) => Ok(Ok(Command::Write { sector, bytes })),
-        None => Ok(Err(Wrong::NotHexadecimal)),
-    }
-}
-
-fn volume(first: &[u8], second: &[u8]) -> Reading
-    ensures { reading vec_items result ≡ with_two Verb.Volume first.now second.now }
-{
-    let Some(mode) = mode_of(first) else {
-        return Err(Wrong::NoSuchMode);
-    };
-    let Some(cipher) = cipher_of(second) else {
-        return Err(Wrong::NoSuchCipher);
-    };
-    Ok(Command::Volume { mode, cipher })
-}
-
-fn with_two(heap: Global, verb: Verb, first: &[u8], second: &[u8]) -> Result<Reading, AllocError>
-    ensures { IfOk result (λ c. reading vec_items c ≡ with_two verb first.now second.now) }
+fn with_two(heap: Global, verb: Verb, first: &[u8], second: &[u8]) -> Reading
+    ensures { ReadAs (listed vec_items) result (with_two verb first.now second.now) }
 {
     match verb {
-        Verb::Image => image(heap, first, second),
-        Verb::Load => load(heap, first, second),
-        Verb::Volume => Ok(volume(first, second)),
-        Verb::Write => write(heap, first, second),
-        _ => Ok(Err(Wrong::WrongWords)),
+        Verb::Image => {
+            let size = needed_number(first)?;
+            let bytes = needed_bytes(heap, second)?;
+            Ok(Command::Image { size, bytes })
+        }
+        Verb::Load => {
+            let size = needed_number(first)?;
+            let path = Vec::from_slice(heap, second)?;
+            Ok(Command::Load { size, path })
+        }
+        Verb::Volume => {
+            let mode = mode_of(first).ok_or(Wrong::NoSuchMode)?;
+            let cipher = cipher_of(second).ok_or(Wrong::NoSuchCipher)?;
+            Ok(Command::Volume { mode, cipher })
+        }
+        Verb::Write => {
+            let sector = needed_number(first)?;
+            let bytes = needed_bytes(heap, second)?;
+            Ok(Command::Write { sector, bytes })
+        }
+        _ => Err(Wrong::WrongWords),
     }
 }
 
-fn with_words(
-    heap: Global,
-    verb: Verb,
-    first: &[u8],
-    second: &[u8],
-    more: &[u8],
-) -> Result<Reading, AllocError>
-    ensures { IfOk result (λ c. reading vec_items c ≡ with_words verb first.now second.now more.now) }
+fn with_words(heap: Global, verb: Verb, first: &[u8], second: &[u8], more: &[u8]) -> Reading
+    ensures { ReadAs (listed vec_items) result (with_words verb first.now second.now more.now) }
 {
     if first.is_empty() {
-        Ok(bare(verb))
+        bare(verb)
     } else if second.is_empty() {
         with_one(heap, verb, first)
     } else if more.is_empty() {
         with_two(heap, verb, first, second)
     } else {
-        Ok(Err(Wrong::WrongWords))
+        Err(Wrong::WrongWords)
     }
 }
 
-fn with_rest(heap: Global, verb: Verb, rest: &[u8]) -> Result<Reading, AllocError>
-    ensures { IfOk result (λ c. reading vec_items c ≡ with_rest verb rest.now) }
+fn with_rest(heap: Global, verb: Verb, rest: &[u8]) -> Reading
+    ensures { ReadAs (listed vec_items) result (with_rest verb rest.now) }
 {
     let (first, rest) = cut_word(rest);
     let (second, rest) = cut_word(rest);
@@ -142,13 +124,11 @@ fn with_rest(heap: Global, verb: Verb, rest: &[u8]) -> Result<Reading, AllocErro
     with_words(heap, verb, first, second, more)
 }
 
-/// Reads a line. It fails for want of memory alone.
-pub fn parse(heap: Global, line: &[u8]) -> Result<Reading, AllocError>
-    ensures line_is_read { IfOk result (λ c. reading vec_items c ≡ parsed line.now) }
+/// Reads a line. Where there is no memory for what it reads as, that is what is wrong.
+pub fn parse(heap: Global, line: &[u8]) -> Reading
+    ensures line_is_read { ReadAs (listed vec_items) result (parsed line.now) }
 {
     let (word, rest) = cut_word(line);
-    match verb_of(word) {
-        Some(verb) => with_rest(heap, verb, rest),
-        None => Ok(Err(Wrong::NoSuchCommand)),
-    }
+    let verb = verb_of(word).ok_or(Wrong::NoSuchCommand)?;
+    with_rest(heap, verb, rest)
 }

@@ -1,89 +1,53 @@
-//! Asks a terminal for the next command that needs the session.
+//! Asks a terminal for commands and tells it answers.
 
 use crate::terminal::Terminal;
-use commands::answer::{Answer, text};
+use commands::answer::Answer;
 use commands::command::{Command, Wrong};
-use commands::parse::parse;
-use std::alloc::{AllocError, Global};
+use commands::parse::{Reading, parse};
+use std::alloc::Global;
 use std::io;
 
-/// What a terminal asks for.
+/// A terminal, and the heap for what it asks and is told.
 #[derive(Drop)]
-pub enum Asked {
-    /// There are no more lines.
-    End,
-    /// A new image.
-    Image { size: u32, bytes: Vec<u8> },
-    /// Another command.
-    Command(Command<Vec<u8>>),
+pub struct Session<'a, T> {
+    pub heap: Global,
+    pub terminal: &'a mut T,
 }
 
-pub fn tell<T: Terminal>(
-    heap: Global,
-    terminal: &mut T,
-    answer: Answer<Vec<u8>>,
-) -> io::Result<()> {
-    let line = text(heap, &answer)?;
-    terminal.answer(line.as_str())
-}
-
-/// Tells an answer, or that there was no memory for it.
-pub fn tell_made<T: Terminal>(
-    heap: Global,
-    terminal: &mut T,
-    answer: Result<Answer<Vec<u8>>, AllocError>,
-) -> io::Result<()> {
-    match answer {
-        Ok(answer) => tell(heap, terminal, answer),
-        Err(_) => tell(heap, terminal, Answer::Wrong(Wrong::NoMemory)),
+impl<T: Terminal> Session<'_, T> {
+    /// Tells an answer, or what is wrong.
+    pub fn tell(&mut self, answer: Result<Answer<Vec<u8>>, Wrong>) -> io::Result<()> {
+        let answer = answer.unwrap_or_else(Answer::Wrong);
+        let text = answer.to_string(self.heap)?;
+        self.terminal.answer(text.as_str())
     }
-}
 
-/// Acts on one command: what needs no session is answered here, and gives none.
-fn take<T: Terminal>(
-    heap: Global,
-    terminal: &mut T,
-    command: Command<Vec<u8>>,
-) -> io::Result<Option<Asked>> {
-    match command {
-        Command::Image { size, bytes } => {
-            tell(heap, terminal, Answer::Done)?;
-            Ok(Some(Asked::Image { size, bytes }))
-        }
-        Command::Load { size, path } => match terminal.load(path.as_slice()) {
-            Some(bytes) => {
-                tell(heap, terminal, Answer::Done)?;
-                Ok(Some(Asked::Image { size, bytes }))
+    /// The command of a line. A file is loaded here, so that an image is one of bytes.
+    fn read(&mut self, line: &[u8]) -> Reading {
+        match parse(self.heap, line)? {
+            Command::Load { size, path } => {
+                let bytes = self
+                    .terminal
+                    .load(path.as_slice())
+                    .ok_or(Wrong::NoSuchFile)?;
+                Ok(Command::Image { size, bytes })
             }
-            None => {
-                tell(heap, terminal, Answer::Wrong(Wrong::NoSuchFile))?;
-                Ok(None)
-            }
-        },
-        Command::Help => {
-            tell(heap, terminal, Answer::Help)?;
-            Ok(None)
-        }
-        other => Ok(Some(Asked::Command(other))),
-    }
-}
-
-/// The next thing asked for. Lines that are not understood are answered and passed over.
-pub fn ask<T: Terminal>(heap: Global, terminal: &mut T) -> io::Result<Asked> {
-    for _ in 0..u64::MAX {
-        let mut line = Vec::new(heap);
-        if !terminal.next_line(&mut line)? {
-            return Ok(Asked::End);
-        }
-        match parse(heap, line.as_slice()) {
-            Ok(Ok(command)) => {
-                if let Some(asked) = take(heap, terminal, command)? {
-                    return Ok(asked);
-                }
-            }
-            Ok(Err(wrong)) => tell(heap, terminal, Answer::Wrong(wrong))?,
-            Err(_) => tell(heap, terminal, Answer::Wrong(Wrong::NoMemory))?,
+            command => Ok(command),
         }
     }
-    Ok(Asked::End)
+
+    /// The next command. Help and what is wrong with a line are told here.
+    pub fn ask(&mut self) -> io::Result<Option<Command<Vec<u8>>>> {
+        for _ in 0..u64::MAX {
+            let Some(line) = self.terminal.next_line()? else {
+                break;
+            };
+            match self.read(line.as_slice()) {
+                Ok(Command::Help) => self.tell(Ok(Answer::Help))?,
+                Ok(command) => return Ok(Some(command)),
+                Err(wrong) => self.tell(Err(wrong))?,
+            }
+        }
+        Ok(None)
+    }
 }

@@ -1,271 +1,141 @@
 //! Serves the commands of a terminal: first without an image, then on an image with its fault list, then on a volume.
 
-use crate::asking::{Asked, ask, tell, tell_made};
+use crate::asking::Session;
+use crate::served::{Nothing, Served};
 use crate::terminal::Terminal;
 use aes::Aes128;
 use ciphers::BlockCipher;
 use ciphers::mask::Mask;
 use commands::answer::Answer;
-use commands::command::{Command, Wrong};
-use commands::names::{CipherName, ModeName};
-use devices::device::SectorDevice;
+use commands::command::Command;
 use fault_lists::list::FaultList;
 use heh::Heh;
 use images::Image;
 use modes::WideMode;
-use replies::calls;
-use replies::told::entered;
+use records::{Cipher, Mode};
 use std::alloc::{AllocError, Global};
 use std::io;
 use tet::Tet;
 use volumes::volume::Volume;
 use xtea::Xtea;
 
-/// After how many steps progress is told.
-const STRIDE: u32 = 65536;
-
-/// What ends the serving of an image or a volume.
-#[derive(Drop)]
-enum Turn {
-    End,
-    Image { size: u32, bytes: Vec<u8> },
-    Volume { mode: ModeName, cipher: CipherName },
-}
-
-fn shown(heap: Global, bytes: &[u8]) -> Result<Answer<Vec<u8>>, AllocError> {
-    let bytes = Vec::from_slice(heap, bytes)?;
-    Ok(Answer::Bytes(bytes))
-}
-
-fn save<T: Terminal>(terminal: &mut T, path: &[u8], bytes: &[u8]) -> Answer<Vec<u8>> {
-    if terminal.save(path, bytes) {
-        Answer::Done
-    } else {
-        Answer::Wrong(Wrong::NotSaved)
-    }
-}
-
-/// Makes steps, and tells the progress of many.
-fn step<T: Terminal, M: WideMode>(
-    terminal: &mut T,
-    volume: &mut Volume<FaultList<Image>, M>,
-    count: u32,
-) -> io::Result<Answer<Vec<u8>>> {
-    let mut left = count;
-    while left > STRIDE {
-        match calls::step(volume, STRIDE) {
-            Answer::Done => {}
-            other => return Ok(other),
-        }
-        left -= STRIDE;
-        terminal.progress(count - left, count)?;
-    }
-    Ok(calls::step(volume, left))
-}
-
-fn stored<'v, M: WideMode>(volume: &'v Volume<FaultList<Image>, M>) -> &'v [u8] {
-    volume.device().device().bytes()
-}
-
-fn on_volume<T: Terminal, M: WideMode>(
-    heap: Global,
-    terminal: &mut T,
-    volume: &mut Volume<FaultList<Image>, M>,
-    command: &Command<Vec<u8>>,
-) -> io::Result<()> {
-    let answer = match command {
-        Command::Open { key } => Ok(calls::open(volume, key.as_slice())),
-        Command::Read { sector } => calls::read(heap, volume, *sector),
-        Command::Write { sector, bytes } => Ok(calls::write(volume, *sector, bytes.as_slice())),
-        Command::Begin { key } => Ok(calls::begin(volume, key.as_slice())),
-        Command::Step { count } => Ok(step(terminal, volume, *count)?),
-        Command::Report => Ok(calls::report(volume)),
-        Command::Show => shown(heap, stored(volume)),
-        Command::Save { path } => Ok(save(terminal, path.as_slice(), stored(volume))),
-        _ => Ok(Answer::Wrong(Wrong::FaultAfterVolume)),
-    };
-    tell_made(heap, terminal, answer)
-}
-
-fn with_volume<T: Terminal, M: WideMode>(
-    heap: Global,
-    terminal: &mut T,
-    volume: &mut Volume<FaultList<Image>, M>,
-) -> io::Result<Turn> {
-    for _ in 0..u64::MAX {
-        match ask(heap, terminal)? {
-            Asked::End => return Ok(Turn::End),
-            Asked::Image { size, bytes } => return Ok(Turn::Image { size, bytes }),
-            Asked::Command(Command::Volume { mode, cipher }) => {
-                return Ok(Turn::Volume { mode, cipher });
-            }
-            Asked::Command(command) => on_volume(heap, terminal, volume, &command)?,
-        }
-    }
-    Ok(Turn::End)
-}
-
-/// What is known of an image beside its bytes: its sector size, and the numbers held as faults.
+/// The sectors of an image, and the numbers that its fault list holds.
 #[derive(Drop)]
 struct Base {
     size: u32,
+    bytes: Vec<u8>,
     faults: Vec<u32>,
 }
 
-/// Serves a new volume.
-fn serve_volume<T: Terminal, M: WideMode>(
-    heap: Global,
-    terminal: &mut T,
-    base: &Base,
-    bytes: &mut [u8],
-    current: M,
-    next: M,
-) -> io::Result<Turn> {
-    let mut list = FaultList::new(Image::new(bytes, base.size));
-    for sector in base.faults.as_slice() {
-        let _ = list.enter(*sector);
-    }
-    let mut volume = Volume::new(list, current, next);
-    tell(heap, terminal, Answer::Done)?;
-    with_volume(heap, terminal, &mut volume)
-}
-
-fn serve_cipher<T: Terminal, C: BlockCipher>(
-    heap: Global,
-    terminal: &mut T,
-    base: &Base,
-    bytes: &mut [u8],
-    mode: ModeName,
-) -> io::Result<Turn> {
-    match mode {
-        ModeName::Tet => {
-            let current: Tet<C> = Tet::new();
-            let next: Tet<C> = Tet::new();
-            serve_volume(heap, terminal, base, bytes, current, next)
+impl Base {
+    /// The image with its fault list.
+    fn list(&mut self) -> FaultList<Image<'_>> {
+        let mut list = FaultList::new(Image::new(self.bytes.as_mut_slice(), self.size));
+        for sector in &self.faults {
+            let _ = list.enter(*sector);
         }
-        ModeName::Heh => {
-            let current: Heh<C> = Heh::new();
-            let next: Heh<C> = Heh::new();
-            serve_volume(heap, terminal, base, bytes, current, next)
-        }
+        list
     }
-}
-
-fn serve_named<T: Terminal>(
-    heap: Global,
-    terminal: &mut T,
-    base: &Base,
-    bytes: &mut [u8],
-    mode: ModeName,
-    cipher: CipherName,
-) -> io::Result<Turn> {
-    match cipher {
-        CipherName::Aes128 => serve_cipher::<T, Aes128>(heap, terminal, base, bytes, mode),
-        CipherName::Xtea => serve_cipher::<T, Xtea>(heap, terminal, base, bytes, mode),
-        CipherName::Mask1 => serve_cipher::<T, Mask<u8>>(heap, terminal, base, bytes, mode),
-        CipherName::Mask8 => serve_cipher::<T, Mask<u64>>(heap, terminal, base, bytes, mode),
-        CipherName::Mask16 => serve_cipher::<T, Mask<u128>>(heap, terminal, base, bytes, mode),
-    }
-}
-
-fn on_image<T: Terminal>(
-    heap: Global,
-    terminal: &mut T,
-    faults: &mut FaultList<Image>,
-    command: &Command<Vec<u8>>,
-) -> io::Result<()> {
-    let answer = match command {
-        Command::Fault { sector } => Ok(entered(faults.enter(*sector))),
-        Command::Show => shown(heap, faults.device().bytes()),
-        Command::Save { path } => Ok(save(terminal, path.as_slice(), faults.device().bytes())),
-        _ => Ok(Answer::Wrong(Wrong::NoVolume)),
-    };
-    tell_made(heap, terminal, answer)
-}
-
-fn with_image<T: Terminal>(
-    heap: Global,
-    terminal: &mut T,
-    faults: &mut FaultList<Image>,
-) -> io::Result<Turn> {
-    for _ in 0..u64::MAX {
-        match ask(heap, terminal)? {
-            Asked::End => return Ok(Turn::End),
-            Asked::Image { size, bytes } => return Ok(Turn::Image { size, bytes }),
-            Asked::Command(Command::Volume { mode, cipher }) => {
-                return Ok(Turn::Volume { mode, cipher });
-            }
-            Asked::Command(command) => on_image(heap, terminal, faults, &command)?,
-        }
-    }
-    Ok(Turn::End)
 }
 
 /// The numbers that a fault list holds.
 fn held(heap: Global, list: &FaultList<Image>) -> Result<Vec<u32>, AllocError> {
     let mut places = [0; 64];
-    let mut numbers = Vec::new(heap);
-    if let Ok(count) = list.list(&mut places) {
-        for number in places.iter().take(count) {
-            numbers.push(*number)?;
-        }
-    }
-    Ok(numbers)
+    let count = list.list(&mut places).unwrap_or(0);
+    places.iter().copied().take(count).collect(heap)
 }
 
-/// Serves an image before there is a volume.
-fn enter_faults<T: Terminal>(
-    heap: Global,
-    terminal: &mut T,
-    size: u32,
-    bytes: &mut [u8],
-) -> io::Result<(Turn, Base)> {
-    let mut list = FaultList::new(Image::new(bytes, size));
-    let turn = with_image(heap, terminal, &mut list)?;
-    let faults = held(heap, &list)?;
-    Ok((turn, Base { size, faults }))
-}
-
-/// Serves an image and the volumes made on it, until there is another image or no more lines.
-fn serve_image<T: Terminal>(
-    heap: Global,
-    terminal: &mut T,
-    size: u32,
-    bytes: &mut [u8],
-) -> io::Result<Turn> {
-    let (mut turn, base) = enter_faults(heap, terminal, size, bytes)?;
-    for _ in 0..u64::MAX {
-        match turn {
-            Turn::Volume { mode, cipher } => {
-                turn = serve_named(heap, terminal, &base, bytes, mode, cipher)?;
+impl<T: Terminal> Session<'_, T> {
+    /// Serves commands, up to one that asks for another to serve.
+    fn serve<S: Served>(&mut self, served: &mut S) -> io::Result<Option<Command<Vec<u8>>>> {
+        for _ in 0..u64::MAX {
+            let Some(command) = self.ask()? else {
+                break;
+            };
+            match served.reply(self, &command)? {
+                Some(reply) => self.tell(reply)?,
+                None => return Ok(Some(command)),
             }
-            other => return Ok(other),
         }
+        Ok(None)
     }
-    Ok(turn)
-}
 
-fn without_image<T: Terminal>(heap: Global, terminal: &mut T) -> io::Result<Turn> {
-    for _ in 0..u64::MAX {
-        match ask(heap, terminal)? {
-            Asked::End => return Ok(Turn::End),
-            Asked::Image { size, bytes } => return Ok(Turn::Image { size, bytes }),
-            Asked::Command(_) => tell(heap, terminal, Answer::Wrong(Wrong::NoImage))?,
+    /// Serves a new volume.
+    fn serve_volume<M: WideMode>(
+        &mut self,
+        base: &mut Base,
+        current: M,
+        next: M,
+    ) -> io::Result<Option<Command<Vec<u8>>>> {
+        let mut volume = Volume::new(base.list(), current, next);
+        self.tell(Ok(Answer::Done))?;
+        self.serve(&mut volume)
+    }
+
+    fn serve_cipher<C: BlockCipher>(
+        &mut self,
+        base: &mut Base,
+        mode: Mode,
+    ) -> io::Result<Option<Command<Vec<u8>>>> {
+        match mode {
+            Mode::Tet => self.serve_volume(base, Tet::<C>::new(), Tet::<C>::new()),
+            Mode::Heh => self.serve_volume(base, Heh::<C>::new(), Heh::<C>::new()),
         }
     }
-    Ok(Turn::End)
+
+    fn serve_named(
+        &mut self,
+        base: &mut Base,
+        mode: Mode,
+        cipher: Cipher,
+    ) -> io::Result<Option<Command<Vec<u8>>>> {
+        match cipher {
+            Cipher::Aes128 => self.serve_cipher::<Aes128>(base, mode),
+            Cipher::Xtea => self.serve_cipher::<Xtea>(base, mode),
+            Cipher::Mask1 => self.serve_cipher::<Mask<u8>>(base, mode),
+            Cipher::Mask8 => self.serve_cipher::<Mask<u64>>(base, mode),
+            Cipher::Mask16 => self.serve_cipher::<Mask<u128>>(base, mode),
+        }
+    }
+
+    /// Serves an image before there is a volume, and keeps its faults.
+    fn serve_list(&mut self, base: &mut Base) -> io::Result<Option<Command<Vec<u8>>>> {
+        let mut list = base.list();
+        let ended = self.serve(&mut list)?;
+        let faults = held(self.heap, &list)?;
+        base.faults = faults;
+        Ok(ended)
+    }
+
+    /// Serves an image and the volumes made on it.
+    fn serve_image(&mut self, size: u32, bytes: Vec<u8>) -> io::Result<Option<Command<Vec<u8>>>> {
+        self.tell(Ok(Answer::Done))?;
+        let faults = Vec::new(self.heap);
+        let mut base = Base {
+            size,
+            bytes,
+            faults,
+        };
+        let mut ended = self.serve_list(&mut base)?;
+        for _ in 0..u64::MAX {
+            let Some(Command::Volume { mode, cipher }) = ended else {
+                break;
+            };
+            ended = self.serve_named(&mut base, mode, cipher)?;
+        }
+        Ok(ended)
+    }
 }
 
 /// Serves the commands of a terminal until there are no more lines.
 pub fn run<T: Terminal>(heap: Global, terminal: &mut T) -> io::Result<()> {
-    let mut turn = without_image(heap, terminal)?;
+    let mut session = Session { heap, terminal };
+    let mut ended = session.serve(&mut Nothing)?;
     for _ in 0..u64::MAX {
-        match turn {
-            Turn::Image { size, mut bytes } => {
-                turn = serve_image(heap, terminal, size, bytes.as_mut_slice())?;
-            }
-            _ => return Ok(()),
-        }
+        let Some(Command::Image { size, bytes }) = ended else {
+            break;
+        };
+        ended = session.serve_image(size, bytes)?;
     }
     Ok(())
 }

@@ -2,8 +2,8 @@ use std::io;
 
 /// Where lines come from and answers go.
 pub trait Terminal {
-    /// Puts the next line into an empty `line`, and answers whether there was one.
-    fn next_line(&mut self, line: &mut Vec<u8>) -> io::Result<bool>;
+    /// The next line, where there is one.
+    fn next_line(&mut self) -> io::Result<Option<Vec<u8>>>;
 
     fn answer(&mut self, text: &str) -> io::Result<()>;
 

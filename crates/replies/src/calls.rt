@@ -15,9 +15,6 @@ use std::alloc::{AllocError, Global};
 use volumes::fault::VolumeFault;
 use volumes::volume::Volume;
 
-/// The most bytes that a sector has.
-const LARGEST: usize = 4096;
-
 /// Opens the volume.
 pub fn open<D: SectorDevice, M: WideMode>(volume: &mut Volume<D, M>, key: &[u8]) -> Answer<Vec<u8>>
     ensures call_is_told { result ≡ tells.called (named names.Open (open_answer M.kind (view D.meaning M.state volume.old) key.now)) }
@@ -41,13 +38,8 @@ fn steps<D: SectorDevice, M: WideMode>(
     ensures steps_are_answered { result ≡ steps_answer M.kind (view D.meaning M.state volume.old) count }
     ensures steps_are_made { view D.meaning M.state volume.new ≡ after_steps M.kind (view D.meaning M.state volume.old) count }
 {
-    let mut left = count;
-    while left > 0 {
-        let answer = volume.step();
-        if answer.is_err() {
-            return answer;
-        }
-        left -= 1;
+    for _ in 0..count {
+        volume.step()?;
     }
     Ok(())
 }
@@ -69,14 +61,9 @@ pub fn read<D: SectorDevice, M: WideMode>(
     ensures sector_is_told { IfOk result (λ a. listed vec_items a ≡ read_answer (volume_of M.kind (view D.meaning M.state volume.old)) sector) }
     ensures volume_stays { view D.meaning M.state volume.new ≡ view D.meaning M.state volume.old }
 {
-    let size = volume.size() as usize;
-    let mut scratch = [0; LARGEST];
-    let buffer = &mut scratch[0..size];
-    match volume.read(sector, buffer) {
-        Ok(()) => {
-            let bytes = Vec::from_slice(heap, buffer)?;
-            Ok(Answer::Bytes(bytes))
-        }
+    let mut bytes = vec![in heap; 0; volume.size() as usize]?;
+    match volume.read(sector, bytes.as_mut_slice()) {
+        Ok(()) => Ok(Answer::Bytes(bytes)),
         Err(fault) => Ok(faulted(fault)),
     }
 }

@@ -1,3 +1,3 @@
-pub mod Fronts
 pub mod Digits
 pub mod Pairs
+pub mod Shown

@@ -1,46 +1,59 @@
--- What reading and writing pairs of digits keeps.
-use Rattle.std.proofs.Common.{◌≡◌, ℕ, suc, ◌+◌, ◌/◌, ◌%◌, ◌<◌, ◌≤◌, Bool, false, cond, List, [], ◌∷◌, ◌++◌, length, get_or, drop, Some, None, codes, Option, ap, ◌∙◌, append_assoc, add-one, arith, drop-cons}
-use Rattle.std.proofs.lemmas.List.{drop_all}
+-- Reading pairs of digits as `hex` does.
+use Rattle.std.proofs.Common.{◌≡◌, ℕ, ◌+◌, ◌*◌, ◌%◌, Bool, false, cond, codes, List, [], ◌∷◌, length, ◌⊎◌, inl, inr, Some, None, Ok, Err, Option, Result, refl, sym, ap, ◌∙◌, arith}
+use Rattle.std.specs.Result.{result_ok}
+use Rattle.std.proofs.lemmas.Bool.Decides.{nat_tests}
+use Rattle.hex.specs.Hex.{hex_digit_value, digit_or_error, pair_value, decode_pairs, decode_of, ◌>>=◌}
+use Rattle.hex.specs.declared.error.FromHexError.{FromHexError}
 use Rattle.std.specs.Str.{bytes_eq}
-use Rattle.texts.specs.Hexadecimal.{digit_value, byte_of, pairs_on, bytes_of, digit_of, pairs_of}
+use Rattle.hex.specs.declared.error.FromHexError.TheVariants.{OutOfMemory}
+use Rattle.texts.specs.Hexadecimal.{digit_value, byte_of, in_front, pairs, bytes_of}
 
-two_at : (text : List ℕ) (i : ℕ) → i + 1 < length text → drop i text ≡ get_or text i 0 ∷ get_or text (i + 1) 0 ∷ drop (i + 2) text
-two_at text i h =
-    let a : suc i ≡ i + 1 = omega arith in
-    let b : suc (i + 1) ≡ i + 2 = omega arith in
-    drop-cons text i 0 (omega arith)
-    ∙ ap (λ j. get_or text i 0 ∷ drop j text) a
-    ∙ ap (λ l. get_or text i 0 ∷ l) (drop-cons text (i + 1) 0 h ∙ ap (λ j. get_or text (i + 1) 0 ∷ drop j text) b)
+same_digit : (c : ℕ) → hex_digit_value c ≡ digit_value c
+same_digit c = grind (arith, nat_tests)
 
-pub pair_at : (done text : List ℕ) (i : ℕ) → i + 1 < length text → pairs_on done (drop i text) ≡ elim (byte_of (digit_value (get_or text i 0)) (digit_value (get_or text (i + 1) 0))) [ None ↦ None | Some x ↦ pairs_on (done ++ x ∷ []) (drop (i + 2) text) ]
-unfolding pairs_on
-pair_at done text i h = ap (λ l. pairs_on done l) (two_at text i h)
+-- two digits
+pair_ok : (a b i : ℕ) (h l : Option ℕ) → result_ok (digit_or_error a i h >>= (λ x. digit_or_error b (i + 1) l >>= (λ y. Ok (x * 16 + y)))) ≡ byte_of h l
+pair_ok a b i None l = refl
+pair_ok a b i (Some x) None = refl
+pair_ok a b i (Some x) (Some y) = refl
 
-pub pair_none : (done text : List ℕ) (i : ℕ) → i + 1 < length text → byte_of (digit_value (get_or text i 0)) (digit_value (get_or text (i + 1) 0)) ≡ None → pairs_on done (drop i text) ≡ None
-pair_none done text i h e = pair_at done text i h ∙ ap (λ (o : Option ℕ). elim o [ None ↦ None | Some x ↦ pairs_on (done ++ x ∷ []) (drop (i + 2) text) ]) e
+-- two digits, and what the pairs behind them read as
+step : (p : Result ℕ FromHexError) (r : Result (List ℕ) FromHexError) → result_ok (p >>= (λ x. r >>= (λ bytes. Ok (x ∷ bytes)))) ≡ in_front (result_ok p) (result_ok r)
+step (Err e) r = refl
+step (Ok x) (Err e) = refl
+step (Ok x) (Ok bytes) = refl
 
-pub pair_more : (done text : List ℕ) (i x : ℕ) → i + 1 < length text → byte_of (digit_value (get_or text i 0)) (digit_value (get_or text (i + 1) 0)) ≡ Some x → pairs_on done (drop i text) ≡ pairs_on (done ++ x ∷ []) (drop (i + 2) text)
-pair_more done text i x h e = pair_at done text i h ∙ ap (λ (o : Option ℕ). elim o [ None ↦ None | Some x ↦ pairs_on (done ++ x ∷ []) (drop (i + 2) text) ]) e
+same_pairs : (i : ℕ) (text : List ℕ) → result_ok (decode_pairs i text) ≡ pairs text
+unfolding decode_pairs pairs
+same_pairs i [] = refl
+same_pairs i (a ∷ []) = refl
+same_pairs i (a ∷ b ∷ cs) =
+    step (pair_value a b i) (decode_pairs (i + 2) cs)
+    ∙ ap (λ o. in_front o (result_ok (decode_pairs (i + 2) cs))) (pair_ok a b i (hex_digit_value a) (hex_digit_value b))
+    ∙ ap (λ o. in_front (byte_of o (hex_digit_value b)) (result_ok (decode_pairs (i + 2) cs))) (same_digit a)
+    ∙ ap (λ o. in_front (byte_of (digit_value a) o) (result_ok (decode_pairs (i + 2) cs))) (same_digit b)
+    ∙ ap (in_front (byte_of (digit_value a) (digit_value b))) (same_pairs (i + 2) cs)
 
-pub pair_half : (done text : List ℕ) (i : ℕ) → i < length text → length text ≤ i + 1 → pairs_on done (drop i text) ≡ None
-unfolding pairs_on
-pair_half done text i h k = ap (λ l. pairs_on done l) (drop-cons text i 0 h ∙ ap (λ l. get_or text i 0 ∷ l) (drop_all (suc i) text (omega arith)))
+nothing : (x : Option ℕ) → in_front x None ≡ None
+nothing None = refl
+nothing (Some x) = refl
 
-pub pair_end : (done text : List ℕ) (i : ℕ) → length text ≤ i → pairs_on done (drop i text) ≡ Some done
-unfolding pairs_on
-pair_end done text i h = rw (drop_all i text h)
+half_left : (text : List ℕ) → length text % 2 ≡ 1 → pairs text ≡ None
+unfolding pairs
+half_left [] h = absurd (omega arith)
+half_left (a ∷ []) h = refl
+half_left (a ∷ b ∷ cs) h =
+    ap (in_front (byte_of (digit_value a) (digit_value b))) (half_left cs (omega arith)) ∙ nothing (byte_of (digit_value a) (digit_value b))
 
-pub no_dash : (text : List ℕ) → bytes_eq text (codes "-") ≡ false → bytes_of text ≡ pairs_on [] text
-no_dash text e = ap (λ (t : Bool). cond t (Some []) (pairs_on [] text)) e
+-- what `hex` decodes a text to is what its pairs read as
+decoded : (text : List ℕ) → result_ok (decode_of text) ≡ pairs text
+decoded text = grind (arith, nat_tests, same_pairs 0 text, half_left text)
 
--- two digits more behind a text
-pub pushed : (text a b rest : List ℕ) (x y : ℕ) → a ≡ text ++ x ∷ [] → b ≡ a ++ y ∷ [] → b ++ rest ≡ text ++ (x ∷ y ∷ rest)
-pushed text a b rest x y e f = ap (λ l. l ++ rest) (f ∙ ap (λ l. l ++ y ∷ []) e) ∙ simp append_assoc
+-- a word that is no dash
+pub undashed : (text : List ℕ) → bytes_eq text (codes "-") ≡ false → bytes_of text ≡ result_ok (decode_of text)
+undashed text e = ap (λ (t : Bool). cond t (Some []) (pairs text)) e ∙ sym (decoded text)
 
-pub written_at : (bytes : List ℕ) (i : ℕ) → i < length bytes → pairs_of (drop i bytes) ≡ digit_of (get_or bytes i 0 / 16) ∷ digit_of (get_or bytes i 0 % 16) ∷ pairs_of (drop (i + 1) bytes)
-unfolding pairs_of
-written_at bytes i h = rw (add-one, drop-cons bytes i 0)
-
-pub written_end : (bytes : List ℕ) (i : ℕ) → length bytes ≤ i → pairs_of (drop i bytes) ≡ []
-unfolding pairs_of
-written_end bytes i h = rw (drop_all i bytes h)
+-- a fault but one of memory is one of the text
+pub refused : (text : List ℕ) (fault : FromHexError) → bytes_eq text (codes "-") ≡ false → (fault ≡ OutOfMemory) ⊎ (decode_of text ≡ Err fault) → (fault ≡ OutOfMemory → ⊥) → bytes_of text ≡ None
+refused text fault e (inl memory) other = absurd (other memory)
+refused text fault e (inr wrong) other = undashed text e ∙ ap result_ok wrong

@@ -1,5 +1,6 @@
 -- Bytes in hexadecimal.
-use Rattle.std.specs.Prelude.{ℕ, ◌+◌, ◌-◌, ◌*◌, ◌/◌, ◌%◌, cond, ◌&&◌, List, [], ◌∷◌, ◌++◌, Some, None, codes, Option, nat_le, nat_lt}
+use Rattle.std.specs.Prelude.{ℕ, ◌+◌, ◌-◌, ◌*◌, ◌/◌, ◌%◌, cond, ◌&&◌, List, [], ◌∷◌, Some, None, codes, Option, nat_le, nat_lt}
+use Rattle.std.specs.List.{flat_map}
 use Rattle.std.specs.Str.{bytes_eq}
 
 -- the value of a digit
@@ -15,26 +16,31 @@ byte_of None low = None
 byte_of (Some high) None = None
 byte_of (Some high) (Some low) = Some (high * 16 + low)
 
--- pairs of digits read behind the bytes so far: none where a byte is no digit, or half a pair is left
-unfoldable pub pairs_on : List ℕ → List ℕ → Option (List ℕ)
-pairs_on done [] = Some done
-pairs_on done (a ∷ []) = None
-pairs_on done (a ∷ b ∷ cs) = elim (byte_of (digit_value a) (digit_value b)) [ None ↦ None | Some x ↦ pairs_on (done ++ x ∷ []) cs ]
+-- one byte more in front
+abbrev pub in_front : Option ℕ → Option (List ℕ) → Option (List ℕ)
+in_front None bytes = None
+in_front (Some x) None = None
+in_front (Some x) (Some bytes) = Some (x ∷ bytes)
+
+-- the bytes of pairs of digits: none where a byte is no digit, or half a pair is left
+unfoldable pub pairs : List ℕ → Option (List ℕ)
+pairs [] = Some []
+pairs (a ∷ []) = None
+pairs (a ∷ b ∷ cs) = in_front (byte_of (digit_value a) (digit_value b)) (pairs cs)
 
 -- the bytes that a word stands for
 abbrev pub bytes_of : List ℕ → Option (List ℕ)
-bytes_of text = cond (bytes_eq text (codes "-")) (Some []) (pairs_on [] text)
+bytes_of text = cond (bytes_eq text (codes "-")) (Some []) (pairs text)
 
 -- the digit of a value below 16
 abbrev pub digit_of : ℕ → ℕ
 digit_of v = cond (nat_lt v 10) (v + 48) (v + 87)
 
 -- two digits a byte
-unfoldable pub pairs_of : List ℕ → List ℕ
-pairs_of [] = []
-pairs_of (x ∷ xs) = digit_of (x / 16) ∷ digit_of (x % 16) ∷ pairs_of xs
+abbrev pub two_digits : ℕ → List ℕ
+two_digits x = digit_of (x / 16) ∷ digit_of (x % 16) ∷ []
 
 -- how bytes are written: as pairs of digits, and no bytes as a dash
 abbrev pub written : List ℕ → List ℕ
 written [] = codes "-"
-written (x ∷ xs) = pairs_of (x ∷ xs)
+written (x ∷ xs) = flat_map two_digits (x ∷ xs)

@@ -1,5 +1,6 @@
 -- The words of a line.
-use Rattle.std.specs.Prelude.{ℕ, suc, Bool, true, false, cond, not, ◌||◌, List, [], ◌∷◌, take, drop, ◌==◌}
+use Rattle.std.specs.Prelude.{ℕ, Bool, true, false, cond, not, ◌||◌, List, take, drop, ◌==◌}
+use Rattle.std.specs.List.{prefix_len}
 
 -- a space, a tab or a carriage return
 abbrev pub is_blank : ℕ → Bool
@@ -10,9 +11,8 @@ abbrev pub suits : Bool → ℕ → Bool
 suits blank c = cond blank (is_blank c) (not (is_blank c))
 
 -- how many bytes at the front are blanks, or are none
-unfoldable pub front : Bool → List ℕ → ℕ
-front blank [] = 0
-front blank (c ∷ cs) = cond (suits blank c) (suc (front blank cs)) 0
+abbrev pub front : Bool → List ℕ → ℕ
+front blank text = prefix_len (suits blank) text
 
 abbrev pub unindented : List ℕ → List ℕ
 unindented text = drop (front true text) text

@@ -1,24 +1,14 @@
 ghost use Rattle.std.specs.Prelude.{◌≡◌};
-ghost use Rattle.texts.specs.Numbers.{is_digit, longer, number_of};
-
-fn is_digit(c: u8) -> bool
-    ensures { result ≡ is_digit c }
-{
-    c >= b'0' && c <= b'9'
-}
+ghost use Rattle.texts.specs.Numbers.{longer, number_of};
 
 /// A number so far, with one more digit behind.
 fn longer(value: u32, c: u8) -> Option<u32>
     ensures { result ≡ longer value c }
 {
-    if !is_digit(c) {
+    if !c.is_ascii_digit() {
         return None;
     }
-    let more = value as u64 * 10 + (c - b'0') as u64;
-    if more > 4294967295 {
-        return None;
-    }
-    Some(more as u32)
+    value.checked_mul(10)?.checked_add(u32::from(c - b'0'))
 }
 
 /// The number below 2^32 that a word stands for.
@@ -30,10 +20,7 @@ pub fn number(word: &[u8]) -> Option<u32>
     }
     let mut value = 0;
     for c in word {
-        let Some(more) = longer(value, *c) else {
-            return None;
-        };
-        value = more;
+        value = longer(value, *c)?;
     }
     Some(value)
 }

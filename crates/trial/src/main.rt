@@ -7,7 +7,7 @@
 use console::session::run;
 use console::terminal::Terminal;
 use std::alloc::Global;
-use std::io::{BufRead, BufReader, Stdin};
+use std::io::{BufRead, BufReader, Split, Stdin};
 use std::str::from_utf8;
 use std::{fs, io};
 
@@ -15,16 +15,12 @@ use std::{fs, io};
 #[derive(Drop)]
 struct Keyboard<'a> {
     rt: &'a HostRuntime,
-    input: BufReader<Stdin>,
+    lines: Split<BufReader<Stdin>>,
 }
 
 impl Terminal for Keyboard<'_> {
-    fn next_line(&mut self, line: &mut Vec<u8>) -> io::Result<bool> {
-        let count = self.input.read_until(b'\n', line)?;
-        if let Some(b'\n') = line.last() {
-            let _ = line.pop();
-        }
-        Ok(count > 0)
+    fn next_line(&mut self) -> io::Result<Option<Vec<u8>>> {
+        self.lines.next().transpose()
     }
 
     fn answer(&mut self, text: &str) -> io::Result<()> {
@@ -42,17 +38,15 @@ impl Terminal for Keyboard<'_> {
     }
 
     fn save(&mut self, path: &[u8], bytes: &[u8]) -> bool {
-        match from_utf8(path) {
-            Ok(path) => fs::write(self.rt, path, bytes).is_ok(),
-            Err(_) => false,
-        }
+        from_utf8(path).is_ok_and(|path| fs::write(self.rt, path, bytes).is_ok())
     }
 }
 
 fn main(rt: HostRuntime) -> io::Result<()> {
+    let heap = rt.alloc();
     let mut keyboard = Keyboard {
         rt: &rt,
-        input: BufReader::new(rt.alloc(), rt.stdin())?,
+        lines: BufReader::new(heap, rt.stdin())?.split(heap, b'\n'),
     };
-    run(rt.alloc(), &mut keyboard)
+    run(heap, &mut keyboard)
 }

@@ -10,20 +10,13 @@ use texts::numbers::number;
 use texts::words::cut_word;
 
 /// How many cases there were, and how many agreed.
-#[derive(Drop)]
+#[derive(Default, Drop)]
 pub struct Tally {
     cases: u32,
     agreed: u32,
 }
 
 impl Tally {
-    pub fn new() -> Tally {
-        Tally {
-            cases: 0,
-            agreed: 0,
-        }
-    }
-
     /// Counts a case, and prints it where it does not agree.
     pub fn count(&mut self, rt: &HostRuntime, line: u64, agrees: bool) -> io::Result<()> {
         self.cases = self.cases.saturating_add(1);
@@ -42,15 +35,16 @@ impl Tally {
 }
 
 /// Does the job, with so many bytes of place, give this answer? The answer is none where the place is to be refused.
-fn agrees(heap: Global, place: u32, record: &[u8], wanted: &Option<Vec<u8>>) -> io::Result<bool> {
+fn agrees(heap: Global, place: u32, record: &[u8], wanted: Option<&[u8]>) -> io::Result<bool> {
     let mut answer = vec![in heap; 0u8; place as usize]?;
-    match work(record, answer.as_mut_slice()) {
-        Ok(count) => match (answer.as_slice().get(0..count), wanted) {
-            (Some(front), Some(bytes)) => Ok(front == bytes.as_slice()),
-            _ => Ok(false),
-        },
-        Err(fault) => Ok(wanted.is_none() && fault.number() == 14),
-    }
+    Ok(match (work(record, answer.as_mut_slice()), wanted) {
+        (Ok(count), Some(bytes)) => answer
+            .as_slice()
+            .get(..count)
+            .is_some_and(|front| front == bytes),
+        (Err(fault), None) => fault.number() == 14,
+        _ => false,
+    })
 }
 
 /// A job: the words behind `job` are the place, the record and the answer.
@@ -58,14 +52,16 @@ pub fn job(heap: Global, words: &[u8]) -> io::Result<bool> {
     let (place, rest) = cut_word(words);
     let (record, rest) = cut_word(rest);
     let (answer, _) = cut_word(rest);
-    let Some(place) = number(place) else {
-        return Ok(false);
-    };
-    let Some(record) = bytes(heap, record)? else {
+    let (Some(place), Some(record)) = (number(place), bytes(heap, record)?) else {
         return Ok(false);
     };
     let answer = bytes(heap, answer)?;
-    agrees(heap, place, record.as_slice(), &answer)
+    agrees(
+        heap,
+        place,
+        record.as_slice(),
+        answer.as_ref().map(|answer| answer.as_slice()),
+    )
 }
 
 /// A script: its lines are those of the table up to `end`.

@@ -20,13 +20,12 @@ use table::Table;
 fn run(rt: &HostRuntime) -> io::Result<()> {
     let heap = rt.alloc();
     let mut table = Table::new(heap, BufReader::new(heap, rt.stdin())?);
-    let mut jobs = Tally::new();
-    let mut scripts = Tally::new();
+    let mut jobs = Tally::default();
+    let mut scripts = Tally::default();
     for _ in 0..u64::MAX {
-        let mut line = Vec::new(heap);
-        if !table.next(&mut line)? {
+        let Some(line) = table.next_line()? else {
             break;
-        }
+        };
         let place = table.place();
         let (word, rest) = cut_word(line.as_slice());
         match word {

@@ -3,33 +3,27 @@
 use console::terminal::Terminal;
 use std::alloc::Global;
 use std::io;
-use std::io::{BufRead, BufReader, Stdin};
+use std::io::{BufRead, BufReader, Split, Stdin};
 
 /// The lines that are still to come.
 #[derive(Drop)]
 pub struct Table {
-    heap: Global,
-    input: BufReader<Stdin>,
+    lines: Split<BufReader<Stdin>>,
     place: u64,
 }
 
 impl Table {
     pub fn new(heap: Global, input: BufReader<Stdin>) -> Table {
         Table {
-            heap,
-            input,
+            lines: input.split(heap, b'\n'),
             place: 0,
         }
     }
 
-    /// Puts the next line into an empty `line`, and answers whether there was one.
-    pub fn next(&mut self, line: &mut Vec<u8>) -> io::Result<bool> {
-        let count = self.input.read_until(b'\n', line)?;
-        if let Some(b'\n') = line.last() {
-            let _ = line.pop();
-        }
+    /// The next line, where there is one.
+    pub fn next_line(&mut self) -> io::Result<Option<Vec<u8>>> {
         self.place = self.place.saturating_add(1);
-        Ok(count > 0)
+        self.lines.next().transpose()
     }
 
     /// The number of the line that came last.
@@ -60,27 +54,23 @@ impl<'a> Script<'a> {
 }
 
 impl Terminal for Script<'_> {
-    fn next_line(&mut self, line: &mut Vec<u8>) -> io::Result<bool> {
-        let mut raw = Vec::new(self.table.heap);
-        if !self.table.next(&mut raw)? {
-            return Ok(false);
+    fn next_line(&mut self) -> io::Result<Option<Vec<u8>>> {
+        let Some(mut line) = self.table.next_line()? else {
+            return Ok(None);
+        };
+        if !line.starts_with(b"> ") {
+            return Ok(None);
         }
-        match raw.as_slice().strip_prefix(b"> ") {
-            Some(command) => {
-                line.extend_from_slice(command)?;
-                Ok(true)
-            }
-            None => Ok(false),
-        }
+        line.drain(..2);
+        Ok(Some(line))
     }
 
     fn answer(&mut self, text: &str) -> io::Result<()> {
-        let mut raw = Vec::new(self.table.heap);
-        let _ = self.table.next(&mut raw)?;
-        match raw.as_slice().strip_prefix(b"< ") {
-            Some(answer) if answer == text.as_bytes() => {}
-            _ => self.agrees = false,
-        }
+        let line = self.table.next_line()?;
+        let told = line
+            .as_ref()
+            .and_then(|line| line.as_slice().strip_prefix(b"< "));
+        self.agrees &= told == Some(text.as_bytes());
         Ok(())
     }
 

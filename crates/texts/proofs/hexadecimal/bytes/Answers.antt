@@ -1,22 +1,15 @@
-use Rattle.std.proofs.Common.{◌+◌, drop, sym, ap, ◌∙◌, arith}
-use Rattle.texts.specs.Hexadecimal.{pairs_on}
-use Rattle.texts.proofs.Pairs.{pair_none, pair_more, pair_half, pair_end, no_dash}
+use Rattle.std.proofs.Common.{ap, sym, ◌∙◌}
+use Rattle.std.specs.Result.{result_ok}
+use Rattle.std.specs.Str.{bytes_eq}
+use Rattle.texts.proofs.Pairs.{undashed, refused}
 use Rattle.texts.proofs.hexadecimal.bytes.Goals as goal
+
+pub returns-in-Ok : goal.returns-in-Ok
+returns-in-Ok c =
+    let no_dash = ap (bytes_eq c.args.word.now) (sym c.as_slice.ensures) ∙ sym c.if-eq.ensures in
+    sym (undashed c.args.word.now no_dash ∙ ap result_ok c.in-Ok.ensures.ok)
 
 pub returns-in_default : goal.returns-in_default
 returns-in_default c =
-    sym (no_dash _ (sym c.if-is.ensures) ∙ c.loop-i.invariant.1 ∙ pair_none _ _ _ c.loop-i-test.true (sym c.in_default.ensures))
-
-pub loop-i-preserved : goal.loop-i-preserved
-loop-i-preserved c = (
-  omega arith,
-  c.loop-i.invariant.1 ∙ pair_more _ _ _ _ c.loop-i-test.true (sym c.in-Some.ensures)
-      ∙ ap (λ l. pairs_on l (drop (c.loop-i.i + 2) c.args.word.now)) (sym c.in_ok-push.ensures.items),
-)
-
-pub returns-then-i-word : goal.returns-then-i-word
-returns-then-i-word c =
-    sym (no_dash _ (sym c.if-is.ensures) ∙ c.loop-i.invariant.1 ∙ pair_half _ _ _ c.if-i-word.true c.loop-i-test.false)
-
-pub returns : goal.returns
-returns c = sym (no_dash _ (sym c.if-is.ensures) ∙ c.loop-i.invariant.1 ∙ pair_end _ _ _ c.if-i-word.false)
+    let no_dash = ap (bytes_eq c.args.word.now) (sym c.as_slice.ensures) ∙ sym c.if-eq.ensures in
+    sym (refused c.args.word.now c.in-Err.fault no_dash c.in-Err.ensures.err c.in_default.not-OutOfMemory)
