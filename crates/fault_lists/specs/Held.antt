@@ -1,5 +1,5 @@
 -- The numbers that a fault list holds.
-use Rattle.std.specs.Prelude.{◌≡◌, ℕ, ◌<◌, ◌≤◌, Bool, false, cond, ◌||◌, List, [], ◌∷◌, ◌++◌, length, take, drop, Ok, Err, Result, ◌==◌, nat_lt}
+use Rattle.std.specs.Prelude.{◌≡◌, ℕ, ◌≤◌, Bool, false, cond, ◌||◌, List, [], ◌∷◌, ◌++◌, length, take, drop, Ok, Err, Result, ◌==◌, nat_lt}
 use Rattle.devices.specs.Faults.{Answer, own}
 use Rattle.devices.specs.declared.fault.Reason as reasons
 use Rattle.std.specs.List.Sorted.{IsPermutation}
@@ -61,7 +61,7 @@ listed_check held number = cond (is_held held number) (Err (own reasons.TheVaria
 abbrev pub list_answer : List ℕ → ℕ → Result ℕ ListRefusal
 list_answer held places = cond (nat_lt places 64) (Err TooFewPlaces) (Ok (length held))
 
--- the places after the list call: first the numbers held, in any order, then what stood there
+-- the places after the list call: first the numbers held, each once and in any order, then what stood there
 pub record Listed (held before after : List ℕ) : Type 0 where
   pub numbers : IsPermutation held (take (length held) after)
   pub once : Once (take (length held) after)

@@ -10,7 +10,7 @@ use std::error::Error;
 use std::fmt;
 
 /// Why a job is refused: an answer with its number is written.
-#[derive(Clone, Copy, PartialEq, Debug)]
+#[derive(Clone, Copy, PartialEq, Eq, Debug)]
 pub enum Refusal {
     /// The record is no job.
     Record(RecordFault),

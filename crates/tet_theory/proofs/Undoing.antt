@@ -14,49 +14,29 @@ use Rattle.tet_theory.specs.Tet.{HashKey, blended, unblended, crypted, enciphere
 use Rattle.tet_theory.proofs.Blends.{blended_sound, unblended_sound, unblended_blended, blended_unblended}
 use Rattle.tet_theory.proofs.Lasts.{crypted_sound, crypted_back}
 
--- ---- on sectors, for maps f and g that undo each other
+-- ---- on sectors: f is E or D, and B what blends or unblends
 
-module _ (r : RingKind) (m t : ℕ) (short : t < r.width) (h : HashKey) (β : ℕ) (f : ℕ → ℕ) (low : (x : ℕ) → x < size r → f x < size r) where
-  pub enciphered_sound : (s : Sector) → Sound r m t s → Sound r m t (enciphered r f h β s)
-  enciphered_sound s ok =
-      blended_sound r m t short h _ (whitened_sound r m t β _ (crypted_sound r f low m t _ (whitened_sound r m t β _ (blended_sound r m t short h s ok))))
+module _ (r : RingKind) (m t : ℕ) (β : ℕ) (f : ℕ → ℕ) (low : (x : ℕ) → x < size r → f x < size r) (B : Sector → Sector) (sound : (s : Sector) → Sound r m t s → Sound r m t (B s)) where
+  abbrev between : Sector → Sector
+  between s = whitened r β (crypted r f (whitened r β s))
 
-  pub deciphered_sound : (s : Sector) → Sound r m t s → Sound r m t (deciphered r f h β s)
-  deciphered_sound s ok =
-      unblended_sound r m t short h _ (whitened_sound r m t β _ (crypted_sound r f low m t _ (whitened_sound r m t β _ (unblended_sound r m t short h s ok))))
+  between_sound : (s : Sector) → Sound r m t s → Sound r m t (between (B s))
+  between_sound s ok = whitened_sound r m t β _ (crypted_sound r f low m t _ (whitened_sound r m t β _ (sound s ok)))
 
-  module _ (g : ℕ → ℕ) (undo : (x : ℕ) → x < size r → g (f x) ≡ x) (sum : h.σ ≡ sigma r h.τ m) (inverse : times r h.σ h.«1/σ» ≡ 1) where
-    pub deciphered_enciphered : (s : Sector) → Sound r m t s → deciphered r g h β (enciphered r f h β s) ≡ s
-    deciphered_enciphered s ok =
-        let s1 = blended r h s in
-        let o1 = blended_sound r m t short h s ok in
-        let s2 = whitened r β s1 in
-        let o2 = whitened_sound r m t β s1 o1 in
-        let s3 = crypted r f s2 in
-        let o3 = crypted_sound r f low m t s2 o2 in
-        let s4 = whitened r β s3 in
-        let o4 = whitened_sound r m t β s3 o3 in
-        ap (λ x. unblended r h (whitened r β (crypted r g (whitened r β x)))) (unblended_blended r m t short h s4 o4 sum inverse)
-        ∙ ap (λ x. unblended r h (whitened r β (crypted r g x))) (whitened_back r β s3)
-        ∙ ap (λ x. unblended r h (whitened r β x)) (crypted_back r f low g undo s2 o2.low)
-        ∙ ap (unblended r h) (whitened_back r β s1)
-        ∙ unblended_blended r m t short h s ok sum inverse
+  direction_sound : (s : Sector) → Sound r m t s → Sound r m t (B (between (B s)))
+  direction_sound s ok = sound (between (B s)) (between_sound s ok)
 
-    pub enciphered_deciphered : (s : Sector) → Sound r m t s → enciphered r g h β (deciphered r f h β s) ≡ s
-    enciphered_deciphered s ok =
-        let s1 = unblended r h s in
-        let o1 = unblended_sound r m t short h s ok in
-        let s2 = whitened r β s1 in
-        let o2 = whitened_sound r m t β s1 o1 in
-        let s3 = crypted r f s2 in
-        let o3 = crypted_sound r f low m t s2 o2 in
-        let s4 = whitened r β s3 in
-        let o4 = whitened_sound r m t β s3 o3 in
-        ap (λ x. blended r h (whitened r β (crypted r g (whitened r β x)))) (blended_unblended r m t short h s4 o4 sum inverse)
-        ∙ ap (λ x. blended r h (whitened r β (crypted r g x))) (whitened_back r β s3)
-        ∙ ap (λ x. blended r h (whitened r β x)) (crypted_back r f low g undo s2 o2.low)
-        ∙ ap (blended r h) (whitened_back r β s1)
-        ∙ blended_unblended r m t short h s ok sum inverse
+  -- g undoes f, and A undoes B
+  direction_undone : (g : ℕ → ℕ) → ((x : ℕ) → x < size r → g (f x) ≡ x) → (A : Sector → Sector) → ((s : Sector) → Sound r m t s → A (B s) ≡ s)
+      → (s : Sector) → Sound r m t s → A (whitened r β (crypted r g (whitened r β (A (B (between (B s))))))) ≡ s
+  direction_undone g undo A back s ok =
+      let s2 = whitened r β (B s) in
+      let o2 = whitened_sound r m t β (B s) (sound s ok) in
+      ap (λ x. A (whitened r β (crypted r g (whitened r β x)))) (back (between (B s)) (between_sound s ok))
+      ∙ ap (λ x. A (whitened r β (crypted r g x))) (whitened_back r β (crypted r f s2))
+      ∙ ap (λ x. A (whitened r β x)) (crypted_back r f low g undo s2 o2.low)
+      ∙ ap A (whitened_back r β (B s))
+      ∙ back s ok
 
 -- ---- what a hash key is
 
@@ -121,23 +101,31 @@ module _ (k : CipherKind) (key : List ℕ) (n : ℕ) (tweak : List ℕ) where
     D-low : (x : ℕ) → x < size k.ring → D x < size k.ring
     D-low x l = k.decipher_block (second_key key) x (second_fits k key n h is) l
 
+    blend_sound : (s : Sector) → Whole s → Whole (blended k.ring h s)
+    blend_sound = blended_sound k.ring (n / k.ring.width) (n % k.ring.width) (tail_short k.ring n) h
+
+    unblend_sound : (s : Sector) → Whole s → Whole (unblended k.ring h s)
+    unblend_sound = unblended_sound k.ring (n / k.ring.width) (n % k.ring.width) (tail_short k.ring n) h
+
     en_kept : (s : Sector) → Whole s → Whole (enciphered k.ring E h β s)
-    en_kept = enciphered_sound k.ring (n / k.ring.width) (n % k.ring.width) (tail_short k.ring n) h β E E-low
+    en_kept = direction_sound k.ring (n / k.ring.width) (n % k.ring.width) β E E-low (blended k.ring h) blend_sound
 
     de_kept : (s : Sector) → Whole s → Whole (deciphered k.ring D h β s)
-    de_kept = deciphered_sound k.ring (n / k.ring.width) (n % k.ring.width) (tail_short k.ring n) h β D D-low
+    de_kept = direction_sound k.ring (n / k.ring.width) (n % k.ring.width) β D D-low (unblended k.ring h) unblend_sound
 
     en_undone : (s : Sector) → Whole s → deciphered k.ring D h β (enciphered k.ring E h β s) ≡ s
     en_undone =
         let ok = hashed k key n h is in
-        deciphered_enciphered k.ring (n / k.ring.width) (n % k.ring.width) (tail_short k.ring n) h β E E-low
-        D (λ x l. k.undone (second_key key) x (second_fits k key n h is) l) ok.sum ok.inverse
+        direction_undone k.ring (n / k.ring.width) (n % k.ring.width) β E E-low (blended k.ring h) blend_sound
+        D (λ x l. k.undone (second_key key) x (second_fits k key n h is) l)
+        (unblended k.ring h) (λ s o. unblended_blended k.ring (n / k.ring.width) (n % k.ring.width) (tail_short k.ring n) h s o ok.sum ok.inverse)
 
     de_undone : (s : Sector) → Whole s → enciphered k.ring E h β (deciphered k.ring D h β s) ≡ s
     de_undone =
         let ok = hashed k key n h is in
-        enciphered_deciphered k.ring (n / k.ring.width) (n % k.ring.width) (tail_short k.ring n) h β D D-low
-        E (λ x l. k.redone (second_key key) x (second_fits k key n h is) l) ok.sum ok.inverse
+        direction_undone k.ring (n / k.ring.width) (n % k.ring.width) β D D-low (unblended k.ring h) unblend_sound
+        E (λ x l. k.redone (second_key key) x (second_fits k key n h is) l)
+        (blended k.ring h) (λ s o. blended_unblended k.ring (n / k.ring.width) (n % k.ring.width) (tail_short k.ring n) h s o ok.sum ok.inverse)
 
   pub encipher_row : (bs : List ℕ) → row n bs ≡ true → row n (encipher k key n tweak bs) ≡ true
   encipher_row = rows_kept k n (λ h. enciphered k.ring E h β) (hash_for k key n) en_kept

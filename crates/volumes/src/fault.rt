@@ -16,7 +16,7 @@ pub enum CallName {
 }
 
 /// Why open, begin or step is refused.
-#[derive(Clone, Copy, PartialEq, Debug)]
+#[derive(Clone, Copy, PartialEq, Eq, Debug)]
 pub enum Refusal {
     /// The volume is closed.
     Closed,
@@ -67,7 +67,7 @@ impl Display for Refusal {
 impl Error for Refusal {}
 
 /// A refused open, begin or step.
-#[derive(Clone, Copy, PartialEq, Debug)]
+#[derive(Clone, Copy, PartialEq, Eq, Debug)]
 pub struct VolumeFault {
     pub call: CallName,
     pub refusal: Refusal,
