@@ -26,6 +26,26 @@ impl Plan {
         }
     }
 
+    /// Tells what was done, and where it was measured a figure of the seconds that it took.
+    pub fn tell<F: FnOnce(f64) -> io::Result<()>>(
+        self,
+        rt: &HostRuntime,
+        what: &str,
+        time: Option<Duration>,
+        figure: F,
+    ) -> io::Result<()>
+        requires { F.IsAlwaysCallable figure }
+    {
+        match (self, time) {
+            (_, None) => println!(rt; "{what} refused"),
+            (Plan::Once, _) => println!(rt; "{what} done"),
+            (Plan::Measured, Some(time)) => {
+                print!(rt; "{what} ")?;
+                figure(time.as_secs_f64())
+            }
+        }
+    }
+
     /// Tells the rate at which bytes were worked on.
     pub fn tell_rate(
         self,
@@ -34,14 +54,10 @@ impl Plan {
         bytes: u32,
         time: Option<Duration>,
     ) -> io::Result<()> {
-        match (self, time) {
-            (_, None) => println!(rt; "{what} refused"),
-            (Plan::Once, _) => println!(rt; "{what} done"),
-            (Plan::Measured, Some(time)) => {
-                let rate = f64::from(bytes) / time.as_secs_f64() / 1e6;
-                println!(rt; "{what} {rate:.1} MB/s")
-            }
-        }
+        self.tell(rt, what, time, |seconds| {
+            let rate = f64::from(bytes) / seconds / 1e6;
+            println!(rt; "{rate:.1} MB/s")
+        })
     }
 
     /// Tells the time that one of so many calls took.
@@ -52,13 +68,9 @@ impl Plan {
         calls: u32,
         time: Option<Duration>,
     ) -> io::Result<()> {
-        match (self, time) {
-            (_, None) => println!(rt; "{what} refused"),
-            (Plan::Once, _) => println!(rt; "{what} done"),
-            (Plan::Measured, Some(time)) => {
-                let each = time.as_secs_f64() / f64::from(calls) * 1e6;
-                println!(rt; "{what} {each:.2} us")
-            }
-        }
+        self.tell(rt, what, time, |seconds| {
+            let each = seconds / f64::from(calls) * 1e6;
+            println!(rt; "{each:.2} us")
+        })
     }
 }

@@ -1,13 +1,13 @@
 use devices::device::SectorDevice;
-use devices::fault::Fault;
 use fault_lists::list::FaultList;
+use std::fmt::Display;
 use std::io;
 
-pub fn answer(
+pub fn answer<E: Display + Drop>(
     rt: &HostRuntime,
     call: &str,
     sector: u32,
-    answer: Result<(), Fault>,
+    answer: Result<(), E>,
 ) -> io::Result<()> {
     match answer {
         Ok(()) => println!(rt; "  {call} {sector}: done"),
@@ -47,10 +47,7 @@ pub fn enter<D: SectorDevice>(
     faults: &mut FaultList<D>,
     sector: u32,
 ) -> io::Result<()> {
-    match faults.enter(sector) {
-        Ok(()) => println!(rt; "  enter {sector}: done"),
-        Err(refusal) => println!(rt; "  enter {sector}: refused {refusal}"),
-    }
+    answer(rt, "enter", sector, faults.enter(sector))
 }
 
 pub fn list<D: SectorDevice>(

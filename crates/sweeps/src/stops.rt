@@ -22,24 +22,22 @@ const OLD_KEY: [u8; 32] = *b"one key of bytes and another key";
 const NEW_KEY: [u8; 32] = *b"the key after that and its other";
 
 /// What is written to a sector: its own number and a counter.
-fn fill(buffer: &mut [u8; SIZE], sector: u32, version: u32) {
-    for (i, byte) in buffer.iter_mut().enumerate() {
+fn written(sector: u32, version: u32) -> [u8; SIZE] {
+    let mut bytes = [0; SIZE];
+    for (i, byte) in bytes.iter_mut().enumerate() {
         *byte = ((i + sector as usize * 31 + version as usize * 7) % 251) as u8;
     }
+    bytes
 }
 
 /// Does the sector read as it was written?
 fn reads<D: SectorDevice>(device: &mut D, sector: u32, version: u32) -> bool {
-    let mut wanted = [0; SIZE];
-    fill(&mut wanted, sector, version);
     let mut buffer = [0; SIZE];
-    device.read(sector, &mut buffer).is_ok() && buffer == wanted
+    device.read(sector, &mut buffer).is_ok() && buffer == written(sector, version)
 }
 
 fn writes<D: SectorDevice>(device: &mut D, sector: u32, version: u32) -> bool {
-    let mut buffer = [0; SIZE];
-    fill(&mut buffer, sector, version);
-    device.write(sector, &buffer).is_ok()
+    device.write(sector, &written(sector, version)).is_ok()
 }
 
 /// Writes every sector's first version.
@@ -91,12 +89,10 @@ fn deciphers<D: SectorDevice, M: WideMode>(
     sector: u32,
     version: u32,
 ) -> bool {
-    let mut wanted = [0; SIZE];
-    fill(&mut wanted, sector, version);
     let mut buffer = [0; SIZE];
     device.read(sector, &mut buffer).is_ok()
         && mode.decipher(sector, &mut buffer).is_ok()
-        && buffer == wanted
+        && buffer == written(sector, version)
 }
 
 /// The sectors of a swept image that the new key deciphers by itself, each with its own number.

@@ -1,39 +1,27 @@
 //! Two boards of a module as one device, with a dead sector.
 
+use crate::answers;
 use devices::device::SectorDevice;
-use devices::fault::Fault;
 use fault_lists::list::FaultList;
 use images::Image;
 use layers::join::Join;
 use layers::window::Window;
 use std::io;
 
-fn show_answer(
-    rt: &impl Print,
-    call: &str,
-    sector: u32,
-    answer: Result<(), Fault>,
-) -> io::Result<()> {
-    match answer {
-        Ok(()) => println!(rt; "  {call} sector {sector}: done"),
-        Err(fault) => println!(rt; "  {call} sector {sector}: refused with {fault}"),
-    }
-}
-
 fn use_device<D: SectorDevice>(rt: &impl Print, device: &mut D) -> io::Result<()> {
     let count = device.count();
     let size = device.size();
     println!(rt; "  the pile has {count} sectors of {size} bytes")?;
     for sector in 0..4u32 {
-        let answer = device.write(sector, b"data");
-        show_answer(rt, "write", sector, answer)?;
+        print!(rt; "  write sector {sector}: ")?;
+        answers::show(rt, device.write(sector, b"data"))?;
     }
     let mut buffer = [0; 4];
-    let answer = device.read(0, &mut buffer);
-    show_answer(rt, "read", 0, answer)?;
+    print!(rt; "  read sector 0: ")?;
+    answers::show(rt, device.read(0, &mut buffer))?;
     println!(rt; "  and the buffer holds {buffer:?}")?;
-    let answer = device.read(0, &mut buffer[0..3]);
-    show_answer(rt, "read into 3 bytes,", 0, answer)
+    print!(rt; "  read into 3 bytes, sector 0: ")?;
+    answers::show(rt, device.read(0, &mut buffer[..3]))
 }
 
 pub fn walk(rt: &impl Print) -> io::Result<()> {

@@ -4,6 +4,7 @@
 
 use std::io;
 
+mod answers;
 mod cipher_walk;
 mod device_walk;
 mod mode_walk;

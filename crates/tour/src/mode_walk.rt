@@ -1,9 +1,10 @@
 //! Sectors of 512 and 520 bytes enciphered and brought back by each wide mode.
 
+use crate::answers;
 use aes::Aes128;
 use ciphers::BlockCipher;
 use heh::Heh;
-use modes::{ModeFault, WideMode};
+use modes::WideMode;
 use std::io;
 use tet::Tet;
 use xtea::Xtea;
@@ -13,13 +14,6 @@ const KEY: [u8; 32] = *b"one key of bytes and another key";
 
 /// The sector's number on the device.
 const NUMBER: u32 = 7;
-
-fn show_answer(rt: &impl Print, call: &str, answer: Result<(), ModeFault>) -> io::Result<()> {
-    match answer {
-        Ok(()) => println!(rt; "  {call}: done"),
-        Err(fault) => println!(rt; "  {call}: refused with {fault}"),
-    }
-}
 
 fn show_ends(rt: &impl Print, what: &str, sector: &[u8]) -> io::Result<()> {
     print!(rt; "  {what} ")?;
@@ -42,19 +36,19 @@ fn show_mode<M: WideMode>(
 ) -> io::Result<()> {
     let size = sector.len();
     println!(rt; "A sector of {size} bytes under {name}")?;
-    let answer = mode.encipher(NUMBER, sector);
-    show_answer(rt, "encipher while blank", answer)?;
-    let answer = mode.key(key, size);
-    show_answer(rt, "key", answer)?;
+    print!(rt; "  encipher while blank: ")?;
+    answers::show(rt, mode.encipher(NUMBER, sector))?;
+    print!(rt; "  key: ")?;
+    answers::show(rt, mode.key(key, size))?;
     for (i, byte) in sector.iter_mut().enumerate() {
         *byte = (i % 256) as u8;
     }
     show_ends(rt, "plain     ", sector)?;
-    let answer = mode.encipher(NUMBER, sector);
-    show_answer(rt, "encipher", answer)?;
+    print!(rt; "  encipher: ")?;
+    answers::show(rt, mode.encipher(NUMBER, sector))?;
     show_ends(rt, "enciphered", sector)?;
-    let answer = mode.decipher(NUMBER, sector);
-    show_answer(rt, "decipher", answer)?;
+    print!(rt; "  decipher: ")?;
+    answers::show(rt, mode.decipher(NUMBER, sector))?;
     show_ends(rt, "deciphered", sector)
 }
 
