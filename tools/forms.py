@@ -8,6 +8,7 @@ looked at and kept has a line comment '// Stays: REASON' beside it. Tables of co
 """
 import re
 import sys
+from difflib import SequenceMatcher
 from pathlib import Path
 
 TABLES = {"sbox.rt", "inv_sbox.rt", "round_table.rt", "inv_round_table.rt"}
@@ -20,15 +21,6 @@ PATTERNS = {
         r"^\s+(Refused|Faulted|Reported) \{.*u8|^\s+Other\(u8\)",
         r"fn named\(code: u8\)",
         r"\bback: bool\b",
-    ],
-    "2": [  # the second of two that differ in a type, a size, a constant or a direction; a trait's own two directions are none
-        r"^(pub(\(crate\))? )?fn (inv_\w+|unblend|decipher|decipher_\w+|back|unmix|through_heh|key_word)\b",
-        r"^    pub(\(crate\))? fn (inv_\w+|decipher|decipher_\w+)\b",
-        r"^fn (on_image|with_image|without_image)\b",
-        r"^impl(<.*>)? (Word|BlockRing|BlockCipher|TweakMode) for (u64|u128|Aes128|Heh)",
-        r"^pub enum (ModeName|CipherName)\b",
-        r"^pub\(crate\) struct Field\b",
-        r"^fn sector_answer\b.*Fault>>",
     ],
     "3": [  # loops that count an index or a number by hand
         r"^\s*for [ijk] in .*\.\.",
@@ -73,8 +65,58 @@ def found(tree, point):
                 yield path.relative_to(tree), number, line.strip()
 
 
+ITEM = re.compile(r"(\s*)(?:pub(?:\(crate\))? )?(?:final )?(fn|impl|enum|struct)\b(.*)")
+
+# the traits of the repository; what each type gives of one of std's is its own
+OWN = re.compile(r"\b(Word|BlockRing|Modulus|BlockCipher|WideMode|TweakMode|SectorDevice)\b.* for ")
+
+# how alike two items are to be called twins
+LEAST = 0.8
+
+
+def items(tree):
+    """Functions of three lines or more in their bodies, impls of our traits, enums and structs, each with the words of its text."""
+    for path in sources(tree):
+        lines = path.read_text().splitlines()
+        for start, line in enumerate(lines):
+            match = ITEM.match(line)
+            if not match or line.endswith("{}"):
+                continue
+            indent, kind, rest = match.groups()
+            end = next((n for n in range(start, len(lines)) if lines[n].startswith(indent + "}")), None)
+            inside = lines[start + 1 : end]
+            if kind == "fn":
+                opened = next((n for n, l in enumerate(lines[start:end]) if l == indent + "{" or l.endswith((" {", ";"))), None)
+                if opened is None or lines[start + opened].endswith(";"):
+                    continue
+                inside = inside[opened:]
+            if kind == "impl" and not OWN.search(rest):
+                continue
+            text = [code(l).strip() for l in inside if code(l).strip()]
+            if len(text) >= (2 if kind in ("enum", "struct") else 3):
+                words = re.findall(r"\w+|[^\w\s]", " ".join(text))
+                yield kind, f"{path.relative_to(tree)}:{start + 1}: {line.strip()}", words
+
+
+def alike(a, b):
+    if min(len(a), len(b)) < 0.6 * max(len(a), len(b)):
+        return False
+    match = SequenceMatcher(None, a, b, autojunk=False)
+    return match.real_quick_ratio() >= LEAST and match.quick_ratio() >= LEAST and match.ratio() >= LEAST
+
+
+def twins(tree):
+    """The items that are like one that stands before them."""
+    seen = []
+    for kind, name, words in items(tree):
+        twin = next((other for k, other, w in seen if k == kind and alike(w, words)), None)
+        if twin:
+            yield f"{name}  is like  {twin}"
+        seen.append((kind, name, words))
+
+
 def facts(tree):
-    """The facts that three or more contracts of a crate require, and the parameters that three or more functions of a file share."""
+    """The facts that three or more contracts of a crate require, and the parameters that three or more private functions of a file share."""
     requires = {}
     parameters = {}
     for path in sources(tree):
@@ -84,7 +126,7 @@ def facts(tree):
             match = re.match(r"\s+requires (?:\w+ )?\{(.*)\}\s*$", line)
             if match:
                 requires.setdefault((crate, re.sub(r"\.(old|now)\b", "", match.group(1)).strip()), []).append(path.name)
-        for match in re.finditer(r"\bfn \w+(?:<.*?>)?\(([^)]*)\)", text):
+        for match in re.finditer(r"^(?:pub\(crate\) )?fn \w+(?:<.*?>)?\(([^)]*)\)", text, re.M):
             names = [n for n in re.findall(r"(\w+): ", match.group(1)) if n != "rt"]
             for pair in {(a, b) for i, a in enumerate(names) for b in names[i + 1:]}:
                 parameters.setdefault((crate, path.name, pair), []).append(match.start())
@@ -120,6 +162,11 @@ def main():
         if wanted == point:
             for path, number, line in places:
                 print(f"  {path}:{number}: {line}")
+    pairs = list(twins(tree))
+    print(f"2: {len(pairs)}")
+    if wanted == "2":
+        for line in pairs:
+            print(f"  {line}")
     shared = list(facts(tree))
     print(f"5: {len(shared)}")
     if wanted == "5":

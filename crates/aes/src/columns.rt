@@ -48,6 +48,7 @@ impl Columns {
     }
 
     #[tactic(auto, unfolding(crate::specs::Aes::add_round_key, crate::specs::Aes::columns, crate::specs::Aes::column))]
+    // Stays: the standard's own arguments, the schedule and the number of a round, so that `round < 11` is asked three times.
     pub(crate) fn add_round_key(self, w: &[u32; 44], round: usize) -> Columns
         requires { round < 11 }
         ensures { state result ≡ add_round_key w.now round (state self) }
@@ -77,6 +78,7 @@ impl Columns {
         }
     }
 
+    // Stays: the standard has these four rounds, each of its own steps; what they share is `of_each`.
     pub(crate) fn round(self, w: &[u32; 44], round: usize) -> Columns
         requires { round < 11 }
         ensures { state result ≡ add_round_key w.now round (mix_columns (shift_rows (sub_bytes (state self)))) }

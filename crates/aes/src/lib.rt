@@ -75,6 +75,7 @@ impl Aes128 {
     }
 
     #[tactic(auto, unfolding(crate::specs::Aes::inv_rounds, crate::specs::Aes::inv_cipher, crate::specs::Aes::decipher), using(crate::proofs::Rounds::back))]
+    // Stays: the standard's two ciphers take other steps in another order.
     pub fn decipher(&self, block: u128) -> u128
         ensures { result ≡ decipher self.now.key block }
     {

@@ -43,6 +43,7 @@ pub(crate) fn expand(key: &[u8; 16]) -> [u32; 44]
     w[1] = u32::from_be_bytes(words[1]);
     w[2] = u32::from_be_bytes(words[2]);
     w[3] = u32::from_be_bytes(words[3]);
+    // Stays: each word is made of two that the loop has written before.
     for i in 4..44usize {
         w[i] = w[i - 4] ^ temp(i, w[i - 1]);
     }

@@ -27,7 +27,7 @@ impl Plan {
     }
 
     /// Tells what was done, and where it was measured a figure of the seconds that it took.
-    pub fn tell<F: FnOnce(f64) -> io::Result<()>>(
+    fn tell<F: FnOnce(f64) -> io::Result<()>>(
         self,
         rt: &HostRuntime,
         what: &str,
@@ -60,6 +60,7 @@ impl Plan {
         })
     }
 
+    // Stays: each tells its own figure; what they share is `tell`.
     /// Tells the time that one of so many calls took.
     pub fn tell_time(
         self,

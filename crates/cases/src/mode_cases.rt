@@ -57,6 +57,7 @@ fn with_cipher<C: BlockCipher>(heap: Global, case: &Case) -> anyhow::Result<Stri
     }
 }
 
+// Stays: each arm has another type, and a function that is generic in a type is no value that one table of names could hand on.
 pub fn answer(heap: Global, case: &Case) -> anyhow::Result<String> {
     match case.cipher {
         "aes-128" => with_cipher::<Aes128>(heap, case),

@@ -44,6 +44,7 @@ impl fmt::Display for CallWord {
     }
 }
 
+// Stays: not `TryFrom`: what is wrong with a word is told by the caller, and an error type here would say nothing more than `None`.
 /// The command of a word.
 pub fn verb_of(word: &[u8]) -> Option<Verb>
     ensures { result ≡ verb_of word.now }

@@ -41,6 +41,7 @@ fn bare(verb: Verb) -> Reading
     }
 }
 
+// Stays: heap and verb go through four functions; a struct of the two would say no more of them.
 fn with_one(heap: Global, verb: Verb, word: &[u8]) -> Reading
     ensures { ReadAs (listed vec_items) result (with_one verb word.now) }
 {

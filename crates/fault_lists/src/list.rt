@@ -86,6 +86,7 @@ impl<D: SectorDevice> SectorDevice for FaultList<D> {
         pass_up(self.device.read(sector, buffer))
     }
 
+    // Stays: a read lends its buffer to be written and a write to be read; `admit` and `pass_up` are what they share.
     fn write(&mut self, sector: u32, buffer: &[u8]) -> Result<(), Fault>
         ensures call_is_answered { result ≡ answer (fault_list_of (held_by self.old.table) (D.SectorDevice.meaning self.old.device)) sector (length buffer.now) }
         ensures sector_is_written { fault_list_of (held_by self.new.table) (D.SectorDevice.meaning self.new.device) ≡ after_write (fault_list_of (held_by self.old.table) (D.SectorDevice.meaning self.old.device)) sector buffer.now }

@@ -50,6 +50,7 @@ fn tweak_key<C: BlockCipher>(cipher: &C, tweak: C::Ring, size: usize) -> TweakKe
     }
 }
 
+// Stays: cipher and tweak are what a call of the mode has; τ, β_1 and β_2, which it makes of them, travel as one.
 /// Ψ with β_1, f on each block, the inverse of Ψ with β_2. f is what `each` does to blocks.
 fn wrap<R: BlockRing, F: Fn(&mut [u8])>(
     key: TweakKey<R>,
@@ -77,6 +78,7 @@ pub(crate) fn encipher<C: BlockCipher>(cipher: &C, tweak: C::Ring, sector: &mut 
     wrap(key, front, last, |blocks| encipher_each(cipher, blocks));
 }
 
+// Stays: the two directions differ in the offsets and the call; what they share is `wrap`.
 /// Ψ with β_2, D_K on each block, the inverse of Ψ with β_1.
 pub(crate) fn decipher<C: BlockCipher>(cipher: &C, tweak: C::Ring, sector: &mut [u8])
     requires { size_fits C.Ring.BlockRing.ring (length sector.old) ≡ true }

@@ -54,6 +54,7 @@ impl<D: SectorDevice, E: SectorDevice> SectorDevice for Join<D, E> {
         }
     }
 
+    // Stays: a read lends its buffer to be written and a write to be read; `admit` and `pass_up` are what they share.
     fn write(&mut self, sector: u32, buffer: &[u8]) -> Result<(), Fault>
         ensures call_is_answered { result ≡ answer (join_of (D.SectorDevice.meaning self.old.first) (E.SectorDevice.meaning self.old.second)) sector (length buffer.now) }
         ensures sector_is_written { join_of (D.SectorDevice.meaning self.new.first) (E.SectorDevice.meaning self.new.second) ≡ after_write (join_of (D.SectorDevice.meaning self.old.first) (E.SectorDevice.meaning self.old.second)) sector buffer.now }

@@ -55,6 +55,7 @@ impl<D: SectorDevice> SectorDevice for Window<D> {
         pass_up(self.device.read(self.start + sector, buffer))
     }
 
+    // Stays: a read lends its buffer to be written and a write to be read; `admit` and `pass_up` are what they share.
     fn write(&mut self, sector: u32, buffer: &[u8]) -> Result<(), Fault>
         ensures call_is_answered { result ≡ answer (window_of self.old.start self.old.wanted (D.SectorDevice.meaning self.old.device)) sector (length buffer.now) }
         ensures sector_is_written { window_of self.new.start self.new.wanted (D.SectorDevice.meaning self.new.device) ≡ after_write (window_of self.old.start self.old.wanted (D.SectorDevice.meaning self.old.device)) sector buffer.now }

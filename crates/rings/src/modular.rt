@@ -54,6 +54,7 @@ fn last<const N: usize>(bytes: &[u8]) -> [u8; N]
     end
 }
 
+// Stays: what is left is each ring's own: its constants, and casts, which name their types.
 impl Modulus for u8 {
     ghost ring = { ring1 };
 

@@ -42,6 +42,7 @@ pub fn power_sum<R: BlockRing>(tau: R, m: usize) -> R
     let half = m / 2;
     let mut sum = one;
     let mut power = tau;
+    // Stays: i is the place of a bit of m, and no index.
     for i in (0..half.ilog2()).rev() {
         sum = sum.add(times_first_powers(half >> (i + 1), power, sum));
         power = power.multiply(power);

@@ -15,6 +15,7 @@ use tet::Tet;
 use volumes::fault::VolumeFault;
 use volumes::volume::Volume;
 
+// Stays: each program has its own words for an answer, and they share no crate that prints.
 fn called(rt: &impl Print, what: &str, answer: Result<(), VolumeFault>) -> io::Result<()> {
     match answer {
         Ok(()) => println!(rt; "  {what}: done"),
@@ -50,9 +51,7 @@ fn half_way<D: SectorDevice, M: WideMode>(
         called(rt, "step", volume.step())?;
     }
     let phase = volume.report();
-    let number = phase.number();
-    let mark = phase.mark();
-    println!(rt; "  report {number} {mark}")?;
+    println!(rt; "  report {} {}", phase.number(), phase.mark())?;
     show(rt, volume)
 }
 

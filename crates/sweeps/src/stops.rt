@@ -30,6 +30,7 @@ fn written(sector: u32, version: u32) -> [u8; SIZE] {
     bytes
 }
 
+// Stays: device, sector and version are what each check is about, in four functions of two lines.
 /// Does the sector read as it was written?
 fn reads<D: SectorDevice>(device: &mut D, sector: u32, version: u32) -> bool {
     let mut buffer = [0; SIZE];
@@ -66,6 +67,7 @@ fn last_version(sector: u32, mark: u32) -> u32 {
     if sector.abs_diff(mark) <= 1 { 2 } else { 1 }
 }
 
+// Stays: a function of both chains would take the test as a closure, and be `filter` once more.
 /// How many sectors read as their last version.
 fn count_right<D: SectorDevice>(device: &mut D, mark: u32) -> usize {
     (0..COUNT)

@@ -83,6 +83,7 @@ impl<C: BlockCipher> Tet<C> {
         Ok(())
     }
 
+    // Stays: HEH has the same test of its own struct; a trait for both would be longer than the test.
     /// The key, for a buffer of its size and a tweak that is not too long.
     fn admit(&self, tweak: &[u8], buffer: &[u8]) -> Result<&Keyed<C>, ModeFault>
         ensures fault { result_err result ≡ obstacle (tet_state self.now) tweak.now buffer.now }
@@ -109,6 +110,7 @@ impl<C: BlockCipher> Tet<C> {
         Ok(())
     }
 
+    // Stays: the two directions are two calls, with a clause each; what they share is `admit`.
     /// Deciphers a sector in place under a tweak of up to 4,096 bytes.
     pub fn decipher_with_tweak(&self, tweak: &[u8], buffer: &mut [u8]) -> Result<(), ModeFault>
         ensures answer { result ≡ answered (obstacle (tet_state self.now) tweak.now buffer.old) }

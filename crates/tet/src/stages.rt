@@ -12,6 +12,7 @@ use passes::tails::*;
 use rings::BlockRing;
 use rings::sums::hash_sum;
 
+// Stays: a hash key and the sector that it is for are two things; the key is one struct.
 /// X_i + H(τ;X)·(1/σ) + p
 fn blend<R: BlockRing>(hash: Hash<R>, sector: &mut [u8])
     ensures { sector.new ≡ rowwise R.ring.width (blended R.ring (key_of R.value hash)) sector.old }

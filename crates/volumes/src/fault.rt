@@ -7,6 +7,7 @@ use std::error::Error;
 use std::fmt;
 use std::fmt::Display;
 
+// Stays: the console's `CallWord` has one more, and its crate knows nothing of volumes.
 /// The calls of a volume that are refused by name.
 #[derive(Clone, Copy, PartialEq, Eq, Debug)]
 pub enum CallName {

@@ -63,6 +63,7 @@ impl<D: SectorDevice, M: WideMode> SectorDevice for Volume<D, M> {
         Ok(())
     }
 
+    // Stays: a read lends its buffer to be written and a write to be read; `admit` and `pass_up` are what they share.
     fn write(&mut self, sector: u32, buffer: &[u8]) -> Result<(), Fault>
         ensures call_is_answered { result ≡ answer (volume_of M.WideMode.kind (view D.SectorDevice.meaning M.WideMode.state self.old)) sector (length buffer.now) }
         ensures sector_is_written { volume_of M.WideMode.kind (view D.SectorDevice.meaning M.WideMode.state self.new) ≡ after_write (volume_of M.WideMode.kind (view D.SectorDevice.meaning M.WideMode.state self.old)) sector buffer.now }

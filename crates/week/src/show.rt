@@ -5,6 +5,7 @@ use std::fmt::Display;
 use std::io;
 use volumes::phase::Phase;
 
+// Stays: each program has its own words for an answer, and they share no crate that prints.
 fn call_answer<E: Display + Drop>(
     rt: &impl Print,
     answer: Option<Result<(), E>>,

@@ -32,6 +32,7 @@ fn times_byte<W: Word>(low: W, a: W, b: W) -> W
 {
     let mut sum = W::zero();
     let mut power = a;
+    // Stays: k is the degree of a coefficient, and no index.
     for k in 0..8u32 {
         sum = sum.add(power.masked(b.lowered(k)));
         power = xtime(low, power);
@@ -60,6 +61,7 @@ pub fn multiply<W: Word>(low: W, a: W, b: W) -> W
     ensures { W.value result ≡ product W.size (W.value low) (W.value a) (W.value b) }
 {
     let mut sum = W::zero();
+    // Stays: i is the place of eight coefficients, and no index.
     for i in (0..W::bits().div_ceil(8)).rev() {
         sum = times_x8(low, sum).add(times_byte(low, a, b.lowered(8 * i)));
     }
@@ -82,6 +84,7 @@ pub fn inverse<W: Word>(low: W, a: W) -> Option<W>
     let mut v = a;
     let mut g = W::one().shifted(j);
     let mut h = W::one();
+    // Stays: the algorithm ends by its remainder, which nothing counts.
     while !u.is_zero() {
         if u.is_below(v) {
             mem::swap(&mut u, &mut v);

@@ -74,6 +74,7 @@ impl<T: PrimInt + Unsigned> Word for T {
         whole(self).unsigned_shr(1)
     }
 
+    // Stays: one function of both shifts would take the shift as a closure, and be no shorter.
     fn lowered(self, by: u32) -> T {
         if by < T::bits() {
             whole(self).unsigned_shr(by)
