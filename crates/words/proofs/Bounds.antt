@@ -13,6 +13,7 @@ use Rattle.words.specs.Widths.{bits_some}
 use Rattle.std.proofs.lemmas.Bool.{eq-eqb, ne_eqb}
 use Rattle.std.proofs.lemmas.Int.{ints}
 use Rattle.std.proofs.lemmas.Nat.{mul-mod_first}
+use Rattle.polynomials.proofs.Quotient.{bit_below}
 use Rattle.num_traits.specs.Ints.{unsigned-order}
 use Rattle.num_traits.specs.Laws.{bit_len}
 
@@ -82,7 +83,7 @@ module _ {A : Type 0} (w : Width) (bits_of : A → ℕ) (of_bits : ℕ → A) (t
       let low : b % N % 2 ≡ m = subst (λ (k : ℕ). b % 2 ^ k % 2 ≡ b % 2) high (mod-mod-pow b (bit_len w - 1) 1) ∙ sym em in
       let bit : m < 2 = omega (arith, em, mod-lt b (zero-lt-suc 1)) in
       let is : bit_and x a ≡ m * (a % N) = ap (λ (y : ℕ). bit_and y a) ex ∙ none_or_all m a bit in
-      let fits : m * (a % N) < N = part m (a % N) bit (mod-lt a (pow_pos (bit_len w))) in
+      let fits : m * (a % N) < N = bit_below m bit (mod-lt a (pow_pos (bit_len w))) in
       ap (λ (y : ℕ). y % N) (made r (m * (a % N)) (e ∙ ap of_bits is) fits) ∙ mod-eq_of_lt fits ∙ ap (λ (y : ℕ). y * (a % N)) (sym low)
     where
       none_or_all : (m a : ℕ) → m < 2 → bit_and (m * (2 ^ bit_len w - 1)) a ≡ m * (a % 2 ^ bit_len w)
@@ -90,11 +91,6 @@ module _ {A : Type 0} (w : Width) (bits_of : A → ℕ) (of_bits : ℕ → A) (t
       none_or_all (suc zero) a h =
           ap (λ (y : ℕ). bit_and y a) (one-mul (2 ^ bit_len w - 1)) ∙ and_comm (2 ^ bit_len w - 1) a ∙ and_mask a (bit_len w) ∙ sym (one-mul (a % 2 ^ bit_len w))
       none_or_all (suc (suc m)) a h = absurd (omega arith)
-
-      part : (m x : ℕ) → m < 2 → x < 2 ^ bit_len w → m * x < 2 ^ bit_len w
-      part zero x h f = subst (λ (y : ℕ). y < 2 ^ bit_len w) (sym (zero-mul x)) (pow_pos (bit_len w))
-      part (suc zero) x h f = subst (λ (y : ℕ). y < 2 ^ bit_len w) (sym (one-mul x)) f
-      part (suc (suc m)) x h f = absurd (omega arith)
 
   -- it has an integer that fits
   pub fits_made : (value : A → ℤ) (fits : ℤ → Type 0) (wrap : ℤ → ℤ) → ((k : ℕ) → k < 2 ^ bit_len w → value (of_bits k) ≡ wrap (pos k)) → ((z : ℤ) → fits (wrap z))
