@@ -42,6 +42,7 @@ pub trait TweakMode: Drop {
         ensures buffer_is_deciphered { buffer.new ≡ ciphered (λ key size. kind.decipher key size tweak.now) (state self.now) (obstacle_of kind (state self.now) tweak.now buffer.old) buffer.old };
 }
 
+// Stays: both types' own methods are public with their own contracts, so a trait's methods can only hand on to them.
 impl<C: BlockCipher> TweakMode for Tet<C> {
     ghost kind = { tet_over C.BlockCipher.kind };
 
