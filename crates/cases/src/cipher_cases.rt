@@ -23,6 +23,7 @@ fn with_cipher<C: BlockCipher>(
         }
     }
     let mut block: C::Ring = parse_block(heap, text)?;
+    // Stays: the word comes from a line of the table; a closure in its place would be picked by the same match.
     match direction {
         "encipher" => cipher.encipher(&mut block),
         "decipher" => cipher.decipher(&mut block),

@@ -33,6 +33,7 @@ fn through<M: TweakMode>(
 ) -> Result<(), ModeFault> {
     let mut mode = M::blank();
     mode.key(key, size)?;
+    // Stays: the word comes from a line of the table; a closure in its place would be picked by the same match.
     match direction {
         "decipher" => mode.decipher_with_tweak(tweak, sector),
         _ => mode.encipher_with_tweak(tweak, sector),
@@ -51,6 +52,7 @@ fn with_mode<M: TweakMode>(heap: Global, case: &Case) -> anyhow::Result<String> 
 }
 
 fn with_cipher<C: BlockCipher>(heap: Global, case: &Case) -> anyhow::Result<String> {
+    // Stays: each arm has another type, which a name of the table picks.
     match case.mode {
         "tet" => with_mode::<Tet<C>>(heap, case),
         _ => with_mode::<Heh<C>>(heap, case),

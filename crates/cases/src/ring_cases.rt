@@ -13,6 +13,7 @@ fn on_ring<R: BlockRing>(
 ) -> anyhow::Result<String> {
     let width = R::width();
     let block: R = parse_block(heap, a)?;
+    // Stays: the word comes from a line of the table; a closure in its place would be picked by the same match.
     match operation {
         "add" => show_block(heap, block.add(parse_block(heap, b)?), width),
         "multiply" => show_block(heap, block.multiply(parse_block(heap, b)?), width),

@@ -40,6 +40,7 @@ impl Base {
 
 /// The numbers that a fault list holds.
 fn held(heap: Global, list: &FaultList<Image>) -> Result<Vec<u32>, AllocError> {
+    // Stays: a fault list writes its numbers into its caller's places: a device has no heap.
     let mut places = [0; 64];
     let count = list.list(&mut places).unwrap_or(0);
     places.iter().copied().take(count).collect(heap)
@@ -77,6 +78,7 @@ impl<T: Terminal> Session<'_, T> {
         base: &mut Base,
         mode: Mode,
     ) -> io::Result<Option<Command<Vec<u8>>>> {
+        // Stays: each arm has another type, which a name of the line picks.
         match mode {
             Mode::Tet => self.serve_volume(base, Tet::<C>::new(), Tet::<C>::new()),
             Mode::Heh => self.serve_volume(base, Heh::<C>::new(), Heh::<C>::new()),
@@ -89,6 +91,7 @@ impl<T: Terminal> Session<'_, T> {
         mode: Mode,
         cipher: Cipher,
     ) -> io::Result<Option<Command<Vec<u8>>>> {
+        // Stays: each arm has another type, which a name of the line picks.
         match cipher {
             Cipher::Aes128 => self.serve_cipher::<Aes128>(base, mode),
             Cipher::Xtea => self.serve_cipher::<Xtea>(base, mode),

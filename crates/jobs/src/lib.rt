@@ -57,6 +57,7 @@ fn cipher<M: TweakMode>(job: &Job<'_>) -> Result<Sector, ModeFault>
 fn cipher_over<C: BlockCipher>(job: &Job<'_>) -> Result<Sector, ModeFault>
     ensures { sector_in result ≡ given (mode_over job.now.mode C.BlockCipher.kind) (task_of job.now) }
 {
+    // Stays: each arm has another type, which a code of the record picks.
     match job.mode {
         Mode::Tet => cipher::<Tet<C>>(job),
         Mode::Heh => cipher::<Heh<C>>(job),
@@ -67,6 +68,7 @@ fn cipher_over<C: BlockCipher>(job: &Job<'_>) -> Result<Sector, ModeFault>
 fn perform(job: &Job<'_>) -> Result<Sector, ModeFault>
     ensures { sector_in result ≡ given (mode_over job.now.mode (cipher_of job.now.cipher)) (task_of job.now) }
 {
+    // Stays: each arm has another type, which a code of the record picks.
     match job.cipher {
         Cipher::Aes128 => cipher_over::<Aes128>(job),
         Cipher::Xtea => cipher_over::<Xtea>(job),

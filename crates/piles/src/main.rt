@@ -102,6 +102,7 @@ fn edges(rt: &HostRuntime) -> io::Result<()> {
 fn full_list(rt: &HostRuntime) -> io::Result<()> {
     let mut bytes = [0; 70];
     let mut faults = FaultList::new(Image::new(&mut bytes, 1));
+    // Stays: a fault list writes its numbers into its caller's places: a device has no heap.
     let mut places = [70; 66];
     list(rt, &faults, &mut places)?;
     for sector in 0..66u32 {
