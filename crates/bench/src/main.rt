@@ -13,7 +13,7 @@ use ciphers::BlockCipher;
 use heh::Heh;
 use plan::Plan;
 use std::{env, io};
-use subject::Subject;
+use subject::{Keys, Subject};
 use tet::Tet;
 use xtea::Xtea;
 
@@ -21,10 +21,18 @@ use xtea::Xtea;
 const SIZES: [usize; 2] = [512, 4096];
 
 fn all(rt: &HostRuntime, plan: Plan, size: usize) -> io::Result<()> {
-    Subject::<Tet<Aes128>>::new("tet-aes-128", Tet::new(), Tet::new(), 32).run(rt, plan, size)?;
-    Subject::<Tet<Xtea>>::new("tet-xtea", Tet::new(), Tet::new(), 32).run(rt, plan, size)?;
-    Subject::<Heh<Aes128>>::new("heh-aes-128", Heh::new(), Heh::new(), 16).run(rt, plan, size)?;
-    Subject::<Heh<Xtea>>::new("heh-xtea", Heh::new(), Heh::new(), 16).run(rt, plan, size)
+    let two = Keys {
+        old: b"one key of bytes and another key",
+        new: b"the key after that and its other",
+    };
+    let one = Keys {
+        old: b"one key of bytes",
+        new: b"the key after th",
+    };
+    Subject::<Tet<Aes128>>::new("tet-aes-128", Tet::new(), Tet::new(), two).run(rt, plan, size)?;
+    Subject::<Tet<Xtea>>::new("tet-xtea", Tet::new(), Tet::new(), two).run(rt, plan, size)?;
+    Subject::<Heh<Aes128>>::new("heh-aes-128", Heh::new(), Heh::new(), one).run(rt, plan, size)?;
+    Subject::<Heh<Xtea>>::new("heh-xtea", Heh::new(), Heh::new(), one).run(rt, plan, size)
 }
 
 fn main(rt: HostRuntime) -> io::Result<()> {

@@ -60,8 +60,8 @@ impl Plan {
         })
     }
 
-    // Stays: each tells its own figure; what they share is `tell`.
     /// Tells the time that one of so many calls took.
+    // Stays: each tells its own figure; what they share is `tell`.
     pub fn tell_time(
         self,
         rt: &HostRuntime,

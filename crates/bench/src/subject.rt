@@ -6,10 +6,12 @@ use std::io;
 use std::time::{Duration, Instant};
 use volumes::volume::Volume;
 
-/// Keys are taken from the front of these bytes.
-const KEY: [u8; 32] = *b"one key of bytes and another key";
-
-const NEW_KEY: [u8; 32] = *b"the key after that and its other";
+/// The two keys of a subject.
+#[derive(Clone, Copy)]
+pub struct Keys {
+    pub old: &'static [u8],
+    pub new: &'static [u8],
+}
 
 /// A mode that is measured, with another of its type for a volume.
 #[derive(Drop)]
@@ -17,16 +19,7 @@ pub struct Subject<M: WideMode> {
     name: &'static str,
     mode: M,
     other: M,
-    key_length: usize,
-}
-
-/// The shorter time of the runs whose calls were all accepted.
-fn better(best: Option<Duration>, time: Duration, accepted: bool) -> Option<Duration> {
-    match best {
-        Some(shorter) if shorter <= time => best,
-        _ if accepted => Some(time),
-        _ => best,
-    }
+    keys: Keys,
 }
 
 /// The shortest time of the runs that are accepted.
@@ -37,11 +30,14 @@ fn best<F: FnMut() -> bool>(
 ) -> io::Result<Option<Duration>>
     requires { F.IsAlwaysCallable run }
 {
-    let mut best = None;
+    let mut best: Option<Duration> = None;
     for _ in 0..plan.runs() {
         let start = Instant::now(rt)?;
         let accepted = run();
-        best = better(best, start.elapsed(rt)?, accepted);
+        let time = start.elapsed(rt)?;
+        if accepted {
+            best = Some(best.map_or(time, |shortest| shortest.min(time)));
+        }
     }
     Ok(best)
 }
@@ -52,18 +48,18 @@ fn sweep<D: SectorDevice, M: WideMode>(volume: &mut Volume<D, M>, key: &[u8]) ->
 }
 
 impl<M: WideMode> Subject<M> {
-    pub fn new(name: &'static str, mode: M, other: M, key_length: usize) -> Subject<M> {
+    pub fn new(name: &'static str, mode: M, other: M, keys: Keys) -> Subject<M> {
         Subject {
             name,
             mode,
             other,
-            key_length,
+            keys,
         }
     }
 
     fn run_key(&mut self, rt: &HostRuntime, plan: Plan, size: usize) -> io::Result<()> {
         let name = self.name;
-        let key = &KEY[..self.key_length.min(32)];
+        let key = self.keys.old;
         let times = plan.sectors(size);
         let mode = &mut self.mode;
         let time = best(rt, plan, || {
@@ -105,14 +101,13 @@ impl<M: WideMode> Subject<M> {
             name,
             mode,
             other,
-            key_length,
+            keys,
         } = self;
-        let length = key_length.min(32);
         let bytes = (image.len() & 0xffff_ffff) as u32;
         let mut volume = Volume::new(Image::new(image, (size & 0xffff) as u32), mode, other);
-        let opened = volume.open(&KEY[..length]).is_ok();
+        let opened = volume.open(keys.old).is_ok();
         let time = best(rt, plan, || {
-            opened && sweep(&mut volume, &NEW_KEY[..length])
+            opened && sweep(&mut volume, keys.new)
         })?;
         print!(rt; "{name} {size} ")?;
         plan.tell_rate(rt, "sweep", bytes, time)

@@ -4,6 +4,7 @@ use anyhow::anyhow;
 use rings::BlockRing;
 use std::alloc::Global;
 
+// Stays: the table's digits are of lower case alone, and the kit's `hex::decode` takes both.
 fn digit(c: u8) -> anyhow::Result<u8> {
     match c {
         b'0'..=b'9' => Ok(c - b'0'),
@@ -21,7 +22,7 @@ pub fn parse_bytes(heap: Global, text: &str) -> anyhow::Result<Vec<u8>> {
     for [high, low] in pairs {
         bytes.push((digit(*high)? & 15) << 4 | digit(*low)?)?;
     }
-    for c in half {
+    if let [c] = half {
         digit(*c)?;
         return Err(anyhow!("half a byte"));
     }
@@ -34,12 +35,7 @@ pub fn parse_block<R: BlockRing>(heap: Global, text: &str) -> anyhow::Result<R> 
 }
 
 pub fn show_bytes(heap: Global, bytes: &[u8]) -> anyhow::Result<String> {
-    let mut text = String::new(heap);
-    for b in bytes {
-        let two = format!(in heap; "{b:02x}")?;
-        text.push_str(two.as_str())?;
-    }
-    Ok(text)
+    Ok(hex::encode(heap, bytes)?)
 }
 
 pub fn show_block<R: BlockRing>(heap: Global, block: R, count: usize) -> anyhow::Result<String> {

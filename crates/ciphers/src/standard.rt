@@ -18,7 +18,6 @@ fn sixteen(key: &[u8]) -> Result<&[u8; 16], KeyFault>
 }
 
 // Stays: the two impls differ only in the cipher that their lines name, and a trait over both would need the same lines once more.
-
 impl BlockCipher for Xtea {
     type Ring = u64;
 

@@ -1,4 +1,4 @@
-ghost use Rattle.std.specs.Prelude.{◌≡◌, vec_items, Some};
+ghost use Rattle.std.specs.Prelude.{vec_items, Some};
 ghost use Rattle.commands.specs.Answers.{text_of};
 
 use crate::command::Wrong;

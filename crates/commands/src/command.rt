@@ -31,7 +31,7 @@ pub enum Command<B> {
 }
 
 /// What is wrong with a line.
-#[derive(Clone, Copy, Debug)]
+#[derive(Clone, Copy, PartialEq, Eq, Debug)]
 pub enum Wrong {
     NoSuchCommand,
     WrongWords,

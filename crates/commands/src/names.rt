@@ -5,7 +5,7 @@ use records::{Cipher, Mode};
 use std::fmt;
 
 /// The first word of a command.
-#[derive(Clone, Copy)]
+#[derive(Clone, Copy, PartialEq, Eq, Debug)]
 pub enum Verb {
     Image,
     Load,
@@ -23,7 +23,7 @@ pub enum Verb {
 }
 
 /// The commands that are refused by name.
-#[derive(Clone, Copy)]
+#[derive(Clone, Copy, PartialEq, Eq, Debug)]
 pub enum CallWord {
     Fault,
     Open,
@@ -44,8 +44,8 @@ impl fmt::Display for CallWord {
     }
 }
 
-// Stays: not `TryFrom`: what is wrong with a word is told by the caller, and an error type here would say nothing more than `None`.
 /// The command of a word.
+// Stays: not `TryFrom`: what is wrong with a word is told by the caller, and an error type here would say nothing more than `None`.
 pub fn verb_of(word: &[u8]) -> Option<Verb>
     ensures { result ≡ verb_of word.now }
 {

@@ -17,6 +17,7 @@ use volumes::volume::Volume;
 const STRIDE: u32 = 65536;
 
 /// What is told of a command, or what is wrong with it.
+// Stays: what is wrong with a command is told and the session goes on; an error of the terminal, around it, ends it.
 pub type Reply = Result<Answer<Vec<u8>>, Wrong>;
 
 /// What serves commands.

@@ -11,6 +11,7 @@ pub trait Terminal {
     fn progress(&mut self, done: u32, count: u32) -> io::Result<()>;
 
     /// The bytes of a file, or none where it cannot be read.
+    // Stays: why a file is not there, or not written, is not told; so neither of the two hands an error on.
     fn load(&mut self, path: &[u8]) -> Option<Vec<u8>>;
 
     /// Writes a file, and answers whether it was written.

@@ -25,8 +25,6 @@ allowed count size sector len b f =
 
 module _ (m : DeviceMeaning) (s : ℕ) where
   -- the checks passed, as the device's own count and size were found
-  pub passed : (count size len : ℕ) → count ≡ length m.sectors → size ≡ m.size → Ok tt ≡ checked count size s len → Ok tt ≡ checked (length m.sectors) m.size s len
-  passed count size len c z ok = ok ∙ ap (λ n. checked n size s len) c ∙ ap (λ n. checked (length m.sectors) n s len) z
 
   -- a failed check is the answer
   pub refused : (len : ℕ) (f : Fault) → Err f ≡ checked (length m.sectors) m.size s len → Err f ≡ answer m s len

@@ -18,8 +18,8 @@ pub enum Reason {
     Listed,
     /// The volume is closed.
     Closed,
-    // Stays: what another make means by its number is not known here.
     /// A reason of a device of another make, by its own number.
+    // Stays: what another make means by its number is not known here.
     Other(u8),
 }
 

@@ -52,6 +52,7 @@ impl<D: SectorDevice> FaultList<D> {
 
     /// Writes the numbers held into the first places, each once and in no promised order, and
     /// answers how many there are. There must be places for a full list.
+    // Stays: a device has no heap, so that its caller gives the places for the numbers.
     pub fn list(&self, places: &mut [u32]) -> Result<usize, ListRefusal>
         ensures count_is_answered { result ≡ list_answer (held_by self.now.table) (length places.old) }
         ensures too_few_places_stay { length places.old < 64 → places.new ≡ places.old }

@@ -22,13 +22,13 @@ module _ (r : RingKind) where
   abbrev pub offset_front : ℕ → ℕ → List ℕ → List ℕ
   offset_front Y β front = rowwise r.width (on_blocks (offset r Y β)) front
 
-  -- Y = X_m + H(τ; X_1..X_(m-1)); these, and Y + β
+  -- X_i + Y + α^i·β for i < m, and Y + β for the last, where Y = X_m + H(τ; X_1..X_(m-1))
   abbrev pub psi : ℕ → ℕ → Halves → Halves
   psi τ β h =
       let Y : ℕ = bit_xor (last_block h) (hash_sum r τ (blocks r.width h.front)) in
       record { front = offset_front Y β h.front; last = bytes_of (length h.last) (bit_xor Y β) }
 
-  -- Y = Z_m + β; these, and Y + H(τ; X_1..X_(m-1))
+  -- X_i = Z_i + Y + α^i·β for i < m, and Y + H(τ; X_1..X_(m-1)) for the last, where Y = Z_m + β
   abbrev pub psi_back : ℕ → ℕ → Halves → Halves
   psi_back τ β h =
       let Y : ℕ = bit_xor (last_block h) β in

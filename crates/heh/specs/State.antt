@@ -10,6 +10,7 @@ use Rattle.heh.specs.declared.Keyed.{Keyed as Kept}
 use Rattle.heh.specs.declared.Heh.{Heh}
 
 module _ {C R : Type 0} {c : CipherGhosts C R} {r : RingGhosts R} where
+  -- the key and the size
   abbrev pub pair_of : Kept C R c r → Keyed
   pair_of k = record { key = c.held k.cipher; size = k.size }
 

@@ -100,8 +100,8 @@ impl<C: BlockCipher> Heh<C> {
         Ok(())
     }
 
-    // Stays: the two directions are two calls, with a clause each; what they share is `admit_with_tweak` and `wrap`.
     /// Deciphers a sector in place, with a tweak of one block.
+    // Stays: the two directions are two calls, with a clause each; what they share is `admit_with_tweak` and `wrap`.
     pub fn decipher_with_tweak(&self, tweak: &[u8], buffer: &mut [u8]) -> Result<(), ModeFault>
         ensures answer { result ≡ answered (obstacle_with C.BlockCipher.kind (state_of self.now) tweak.now buffer.old) }
         ensures buffer_is_deciphered { buffer.new ≡ ciphered (λ key size. decipher C.BlockCipher.kind key size tweak.now) (state_of self.now) (obstacle_with C.BlockCipher.kind (state_of self.now) tweak.now buffer.old) buffer.old }
@@ -122,8 +122,8 @@ impl<C: BlockCipher> Heh<C> {
         Ok(())
     }
 
-    // Stays: as above; what they share is `admit` and `wrap`.
     /// Deciphers the sector with this number in place: its tweak is the number modulo 2^n, as a block.
+    // Stays: as above; what they share is `admit` and `wrap`.
     pub fn decipher_sector(&self, number: u32, buffer: &mut [u8]) -> Result<(), ModeFault>
         ensures answer { result ≡ answered (obstacle (state_of self.now) buffer.old) }
         ensures buffer_is_deciphered { buffer.new ≡ ciphered (λ key size. decipher_sector C.BlockCipher.kind key size number) (state_of self.now) (obstacle (state_of self.now) buffer.old) buffer.old }

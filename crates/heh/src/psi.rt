@@ -26,8 +26,8 @@ pub(crate) fn forward<R: BlockRing>(tau: R, beta: R, front: &mut [u8], last: &mu
     y.add(beta).to_bytes(last);
 }
 
-// Stays: Ψ and its inverse are two formulas; what they share is `add_offsets`.
 /// Y = Z_m + β; X_i = Z_i + Y + α^i·β for i < m, and X_m = Y + H(τ; X_1..X_(m-1)).
+// Stays: Ψ and its inverse are two formulas; what they share is `add_offsets`.
 pub(crate) fn back<R: BlockRing>(tau: R, beta: R, front: &mut [u8], last: &mut [u8])
     ensures { record { front = front.new; last = last.new } ≡ psi_back R.ring (R.value tau) (R.value beta) (record { front = front.old; last = last.old }) }
 {

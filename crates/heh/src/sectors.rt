@@ -33,6 +33,7 @@ impl<R: BlockRing> TweakKey<R> {
 }
 
 /// τ = E_K(T), β_1 = E_K(τ + L) with L = 8ℓ, β_2 = α·β_1.
+// Stays: cipher and tweak are what a call of the mode has; τ, β_1 and β_2, which it makes of them, travel as one.
 fn tweak_key<C: BlockCipher>(cipher: &C, tweak: C::Ring, size: usize) -> TweakKey<C::Ring>
     requires { size ≤ C.Ring.BlockRing.ring.longest }
     ensures tau { C.Ring.BlockRing.value result.tau ≡ tau_of C.Ring.BlockRing.ring (C.BlockCipher.kind.encipher (C.BlockCipher.held cipher.now)) (C.Ring.BlockRing.value tweak) }
@@ -50,8 +51,8 @@ fn tweak_key<C: BlockCipher>(cipher: &C, tweak: C::Ring, size: usize) -> TweakKe
     }
 }
 
-// Stays: cipher and tweak are what a call of the mode has; τ, β_1 and β_2, which it makes of them, travel as one.
 /// Ψ with β_1, f on each block, the inverse of Ψ with β_2. f is what `each` does to blocks.
+// Stays: front and last are the two loans of one `split_at_mut`; a struct of both would be borrowed anew for each call.
 fn wrap<R: BlockRing, F: Fn(&mut [u8])>(
     key: TweakKey<R>,
     front: &mut [u8],
@@ -78,8 +79,8 @@ pub(crate) fn encipher<C: BlockCipher>(cipher: &C, tweak: C::Ring, sector: &mut 
     wrap(key, front, last, |blocks| encipher_each(cipher, blocks));
 }
 
-// Stays: the two directions differ in the offsets and the call; what they share is `wrap`.
 /// Ψ with β_2, D_K on each block, the inverse of Ψ with β_1.
+// Stays: the two directions differ in the offsets and the call; what they share is `wrap`.
 pub(crate) fn decipher<C: BlockCipher>(cipher: &C, tweak: C::Ring, sector: &mut [u8])
     requires { size_fits C.Ring.BlockRing.ring (length sector.old) ≡ true }
     ensures { sector.new ≡ rowwise C.Ring.BlockRing.ring.width (on_blocks (deciphered C.Ring.BlockRing.ring (C.BlockCipher.kind.encipher (C.BlockCipher.held cipher.now)) (C.BlockCipher.kind.decipher (C.BlockCipher.held cipher.now)) (C.Ring.BlockRing.value tweak) (length sector.old))) sector.old }

@@ -97,7 +97,7 @@ impl<'a> SectorDevice for Image<'a> {
         Ok(())
     }
 
-    // Stays: a read lends its buffer to be written and a write to be read; `admit` and `pass_up` are what they share.
+    // Stays: a read lends its buffer to be written and a write to be read; `admit` and `start` are what they share.
     fn write(&mut self, sector: u32, buffer: &[u8]) -> Result<(), Fault>
         ensures call_is_answered { result ≡ answer (image_of self.old.wanted self.old.bytes.now) sector (length buffer.now) }
         ensures sector_is_written { image_of self.new.wanted self.new.bytes.now ≡ after_write (image_of self.old.wanted self.old.bytes.now) sector buffer.now }

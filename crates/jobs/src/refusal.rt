@@ -37,7 +37,7 @@ impl fmt::Display for Refusal {
     fn fmt<W: fmt::Write>(&self, f: &mut fmt::Formatter<W>) -> fmt::Result {
         match self {
             Refusal::Record(fault) => write!(f, "{fault}"),
-            Refusal::Mode(fault) => write!(f, "{}", fault.number()),
+            Refusal::Mode(fault) => write!(f, "{fault}"),
         }
     }
 }

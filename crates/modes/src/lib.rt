@@ -27,8 +27,8 @@ pub enum ModeFault {
     NoInverse,
     /// The tweak has a length that the mode does not take.
     WrongTweak,
-    // Stays: what another make means by its number is not known here.
     /// A refusal of a mode of another make.
+    // Stays: what another make means by its number is not known here.
     Other(u8),
 }
 

@@ -51,8 +51,8 @@ pub fn encipher_each<C: BlockCipher>(cipher: &C, sector: &mut [u8])
     });
 }
 
-// Stays: the two closures differ in their one call; what they share is `map_each`.
 /// Puts D_K of each block in its place.
+// Stays: the two closures differ in their one call; what they share is `map_each`.
 pub fn decipher_each<C: BlockCipher>(cipher: &C, sector: &mut [u8])
     ensures blocks_are_deciphered { sector.new ≡ rowwise C.Ring.BlockRing.ring.width (mapped (C.BlockCipher.kind.decipher (C.BlockCipher.held cipher.now))) sector.old }
 {

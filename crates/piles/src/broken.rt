@@ -1,7 +1,6 @@
 ghost use Rattle.std.specs.Prelude.{◌≡◌};
 ghost use Rattle.piles.specs.Broken.{broken_of, sounds};
 
-use devices::call::check;
 use devices::device::SectorDevice;
 use devices::fault::Fault;
 
@@ -34,12 +33,12 @@ impl SectorDevice for Broken {
     }
 
     fn read(&mut self, sector: u32, buffer: &mut [u8]) -> Result<(), Fault> {
-        check(self.count(), self.size(), sector, buffer.len())?;
+        self.admit(sector, buffer.len())?;
         Err(self.fault)
     }
 
     fn write(&mut self, sector: u32, buffer: &[u8]) -> Result<(), Fault> {
-        check(self.count(), self.size(), sector, buffer.len())?;
+        self.admit(sector, buffer.len())?;
         Err(self.fault)
     }
 }

@@ -56,7 +56,7 @@ fn sizes(rt: &HostRuntime) -> io::Result<()> {
     }
     let mut sector = [5; 4096];
     {
-        let mut image = Image::new(&mut bytes, 4_294_967_295);
+        let mut image = Image::new(&mut bytes, u32::MAX);
         outline(rt, "wanted 4294967295", &image)?;
         let answer = image.write(0, &sector);
         show::answer(rt, "write", 0, answer)?;
@@ -76,7 +76,7 @@ fn edges(rt: &HostRuntime) -> io::Result<()> {
     let mut past = Window::new(Image::new(&mut bytes, 1), 3, 1);
     outline(rt, "window from the end", &past)?;
     read(rt, &mut past, 0, &mut [0])?;
-    let mut last = Window::new(Image::new(&mut bytes, 1), 2, 4_294_967_295);
+    let mut last = Window::new(Image::new(&mut bytes, 1), 2, u32::MAX);
     outline(rt, "window on the last", &last)?;
     read(rt, &mut last, 0, &mut [0])?;
     read(rt, &mut last, 1, &mut [0])?;

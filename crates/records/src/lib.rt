@@ -35,6 +35,13 @@ const TWEAK: u8 = 4;
 
 const SECTOR: u8 = 5;
 
+/// The codes that an absent one stands for: those of TET, of AES-128 and of enciphering.
+const ABSENT_MODE: u8 = 1;
+
+const ABSENT_CIPHER: u8 = 1;
+
+const ABSENT_DIRECTION: u8 = 0;
+
 /// Why a record is no job.
 #[derive(Clone, Copy, PartialEq, Eq, Debug)]
 pub enum RecordFault {
@@ -169,14 +176,14 @@ fn stands(map: u8, bit: u8) -> bool
     (map >> bit) % 2 == 1
 }
 
-/// The fields whose bits stand, which are all of the bytes. An absent code is that of TET, of AES-128, or of enciphering.
+/// The fields whose bits stand, which are all of the bytes.
 fn fields(map: u8, bytes: &[u8]) -> Option<Job<'_>>
     ensures { option_map task_of result ≡ fields_as map bytes.now }
 {
     let mut reader = Reader { rest: bytes };
-    let mode = reader.code(stands(map, MODE), 1)?;
-    let cipher = reader.code(stands(map, CIPHER), 1)?;
-    let direction = reader.code(stands(map, DIRECTION), 0)?;
+    let mode = reader.code(stands(map, MODE), ABSENT_MODE)?;
+    let cipher = reader.code(stands(map, CIPHER), ABSENT_CIPHER)?;
+    let direction = reader.code(stands(map, DIRECTION), ABSENT_DIRECTION)?;
     let key = reader.field(stands(map, KEY))?;
     let tweak = reader.field(stands(map, TWEAK))?;
     let sector = reader.field(stands(map, SECTOR))?;

@@ -31,8 +31,8 @@ pub fn called(answer: Result<(), VolumeFault>) -> Answer<Vec<u8>>
     }
 }
 
-// Stays: each refusal has its own words; `map_or_else` has the two closures that the arms are, in the other order.
 /// What is told of the entering of a fault.
+// Stays: each refusal has its own words; `map_or_else` has the two closures that the arms are, in the other order.
 pub fn entered(answer: Result<(), EnterRefusal>) -> Answer<Vec<u8>>
     ensures entering_is_told { result ≡ entered answer }
 {

@@ -15,7 +15,7 @@ use tet::Tet;
 use volumes::fault::VolumeFault;
 use volumes::volume::Volume;
 
-// Stays: each program has its own words for an answer, and they share no crate that prints.
+// Stays: two arms in each program that prints an answer; a crate for them alone would be longer.
 fn called(rt: &impl Print, what: &str, answer: Result<(), VolumeFault>) -> io::Result<()> {
     match answer {
         Ok(()) => println!(rt; "  {what}: done"),

@@ -15,7 +15,7 @@ const SIZE: usize = 520;
 
 const COUNT: u32 = 12;
 
-const BYTES: usize = 6240;
+const BYTES: usize = SIZE * COUNT as usize;
 
 const OLD_KEY: [u8; 32] = *b"one key of bytes and another key";
 
@@ -30,8 +30,8 @@ fn written(sector: u32, version: u32) -> [u8; SIZE] {
     bytes
 }
 
-// Stays: device, sector and version are what each check is about, in four functions of two lines.
 /// Does the sector read as it was written?
+// Stays: device, sector and version are what each check is about, in four functions of two lines.
 fn reads<D: SectorDevice>(device: &mut D, sector: u32, version: u32) -> bool {
     let mut buffer = [0; SIZE];
     device.read(sector, &mut buffer).is_ok() && buffer == written(sector, version)
@@ -67,8 +67,8 @@ fn last_version(sector: u32, mark: u32) -> u32 {
     if sector.abs_diff(mark) <= 1 { 2 } else { 1 }
 }
 
-// Stays: a function of both chains would take the test as a closure, and be `filter` once more.
 /// How many sectors read as their last version.
+// Stays: a function of both chains would take the test as a closure, and be `filter` once more.
 fn count_right<D: SectorDevice>(device: &mut D, mark: u32) -> usize {
     (0..COUNT)
         .filter(|sector| reads(device, *sector, last_version(*sector, mark)))
@@ -97,16 +97,20 @@ fn deciphers<D: SectorDevice, M: WideMode>(
         && buffer == written(sector, version)
 }
 
+/// How many sectors of a device a mode deciphers to their last version.
+fn count_deciphered<D: SectorDevice, M: WideMode>(device: &mut D, mode: &M, mark: u32) -> usize {
+    (0..COUNT)
+        .filter(|sector| deciphers(device, mode, *sector, last_version(*sector, mark)))
+        .count()
+}
+
 /// The sectors of a swept image that the new key deciphers by itself, each with its own number.
 fn stored_right(image: &mut [u8], mark: u32) -> usize {
     let mut mode: Tet<Aes128> = Tet::new();
     if mode.key(&NEW_KEY, SIZE).is_err() {
         return 0;
     }
-    let mut device = Image::new(image, 520);
-    (0..COUNT)
-        .filter(|sector| deciphers(&mut device, &mode, *sector, last_version(*sector, mark)))
-        .count()
+    count_deciphered(&mut Image::new(image, 520), &mode, mark)
 }
 
 fn stop_at(rt: &impl Print, mark: u32) -> io::Result<()> {

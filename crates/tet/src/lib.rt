@@ -6,7 +6,7 @@
 
 #![tactic(auto)]
 
-ghost use Rattle.std.specs.Prelude.{◌≡◌, ℕ, Some, None, IfOk, refl};
+ghost use Rattle.std.specs.Prelude.{◌≡◌, ℕ, Some, None, IfOk};
 ghost use Rattle.std.specs.Result.{result_err};
 ghost use Rattle.std.proofs.Props.{props};
 ghost use Rattle.modes.specs.Faults.{answered};
@@ -83,8 +83,8 @@ impl<C: BlockCipher> Tet<C> {
         Ok(())
     }
 
-    // Stays: HEH has the same test of its own struct; a trait for both would be longer than the test.
     /// The key, for a buffer of its size and a tweak that is not too long.
+    // Stays: HEH has the same test of its own struct; a trait for both would be longer than the test.
     fn admit(&self, tweak: &[u8], buffer: &[u8]) -> Result<&Keyed<C>, ModeFault>
         ensures fault { result_err result ≡ obstacle (tet_state self.now) tweak.now buffer.now }
         ensures key { IfOk result (λ k. self.now.keyed ≡ Some k.now) }
@@ -110,8 +110,8 @@ impl<C: BlockCipher> Tet<C> {
         Ok(())
     }
 
-    // Stays: the two directions are two calls, with a clause each; what they share is `admit`.
     /// Deciphers a sector in place under a tweak of up to 4,096 bytes.
+    // Stays: the two directions are two calls, with a clause each; what they share is `admit`.
     pub fn decipher_with_tweak(&self, tweak: &[u8], buffer: &mut [u8]) -> Result<(), ModeFault>
         ensures answer { result ≡ answered (obstacle (tet_state self.now) tweak.now buffer.old) }
         ensures buffer_is_deciphered { buffer.new ≡ ciphered (λ key size. decipher C.BlockCipher.kind key size tweak.now) (tet_state self.now) (obstacle (tet_state self.now) tweak.now buffer.old) buffer.old }

@@ -12,8 +12,8 @@ use passes::tails::*;
 use rings::BlockRing;
 use rings::sums::hash_sum;
 
-// Stays: a hash key and the sector that it is for are two things; the key is one struct.
 /// X_i + H(τ;X)·(1/σ) + p
+// Stays: the stages are functions of a sector; as methods of the hash key, two of them would stand away from the others.
 fn blend<R: BlockRing>(hash: Hash<R>, sector: &mut [u8])
     ensures { sector.new ≡ rowwise R.ring.width (blended R.ring (key_of R.value hash)) sector.old }
 {

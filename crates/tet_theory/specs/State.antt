@@ -7,6 +7,7 @@ use Rattle.modes.specs.declared.ModeFault.{ModeFault}
 use Rattle.modes.specs.declared.ModeFault.TheVariants.{WrongLength, Key, WrongSize, NoInverse, WrongTweak}
 use Rattle.tet_theory.specs.Tet.{HashKey, size_fits, hash_key, first_key, key_fits}
 
+-- a size whose σ has no inverse is refused
 abbrev pub without_hash : Option HashKey → Option ModeFault
 without_hash None = Some NoInverse
 without_hash (Some h) = None

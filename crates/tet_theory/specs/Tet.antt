@@ -84,6 +84,7 @@ module _ (r : RingKind) where
   crypted_tail_of f Us [] = record { blocks = Us; tail = [] }
   crypted_tail_of f Us (y ∷ ys) = record { blocks = on_last f Us; tail = mixed r (last Us) (y ∷ ys) }
 
+  -- the same on a sector
   abbrev pub crypted_tail : (ℕ → ℕ) → Sector → Sector
   crypted_tail f X = crypted_tail_of f X.blocks X.tail
 

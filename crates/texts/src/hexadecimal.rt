@@ -15,10 +15,8 @@ pub fn bytes(heap: Global, word: &[u8]) -> Result<Option<Vec<u8>>, AllocError>
     }
     match hex::decode(heap, word) {
         Ok(bytes) => Ok(Some(bytes)),
-        Err(fault) => match fault {
-            FromHexError::OutOfMemory => Err(AllocError),
-            _ => Ok(None),
-        },
+        Err(FromHexError::OutOfMemory) => Err(AllocError),
+        Err(_) => Ok(None),
     }
 }
 

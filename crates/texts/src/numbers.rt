@@ -2,6 +2,7 @@ ghost use Rattle.std.specs.Prelude.{◌≡◌};
 ghost use Rattle.texts.specs.Numbers.{longer, number_of};
 
 /// A number so far, with one more digit behind.
+// Stays: a number here has digits alone, and std's `parse` takes a `+` before them.
 fn longer(value: u32, c: u8) -> Option<u32>
     ensures { result ≡ longer value c }
 {

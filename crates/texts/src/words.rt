@@ -1,5 +1,5 @@
 ghost use Rattle.std.specs.Prelude.{◌≡◌, ◌≤◌, true, false, length};
-ghost use Rattle.texts.specs.Words.{is_blank, suits, front, word_of, after_word};
+ghost use Rattle.texts.specs.Words.{is_blank, front, word_of, after_word};
 
 fn is_blank(c: u8) -> bool
     ensures { result ≡ is_blank c }
@@ -8,6 +8,7 @@ fn is_blank(c: u8) -> bool
 }
 
 /// How many bytes at the front are blanks, or are none.
+// Stays: the flag is the definition's own; a closure in its place would be one of the same two.
 fn front(blank: bool, text: &[u8]) -> usize
     ensures bytes_are_counted { result ≡ front blank text.now }
     ensures within { result ≤ length text.now }

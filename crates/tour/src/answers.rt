@@ -3,8 +3,8 @@
 use std::fmt::Display;
 use std::io;
 
-// Stays: each program has its own words for an answer, and they share no crate that prints.
 /// Ends the line of a call with its answer.
+// Stays: two arms in each program that prints an answer; a crate for them alone would be longer.
 pub fn show<E: Display + Drop>(rt: &impl Print, answer: Result<(), E>) -> io::Result<()> {
     match answer {
         Ok(()) => println!(rt; "done"),

@@ -25,9 +25,8 @@ fn show_block<R: BlockRing>(rt: &impl Print, what: &str, block: R) -> io::Result
 fn show_cipher<C: BlockCipher>(rt: &impl Print, name: &str) -> io::Result<()> {
     println!(rt; "One block under {name}")?;
     let mut cipher = C::new();
-    let key = C::key_length();
-    if key <= 16 {
-        if let Err(fault) = cipher.set_key(&KEY[0..key]) {
+    if let Some(key) = KEY.get(..C::key_length()) {
+        if let Err(fault) = cipher.set_key(key) {
             return println!(rt; "  the key is refused with {fault}");
         }
     }

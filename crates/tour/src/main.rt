@@ -6,6 +6,7 @@ use std::io;
 
 mod answers;
 mod cipher_walk;
+mod counting;
 mod device_walk;
 mod mode_walk;
 mod ring_walk;

@@ -1,6 +1,6 @@
 //! Sectors of 512 and 520 bytes enciphered and brought back by each wide mode.
 
-use crate::answers;
+use crate::{answers, counting};
 use aes::Aes128;
 use ciphers::BlockCipher;
 use heh::Heh;
@@ -40,9 +40,7 @@ fn show_mode<M: WideMode>(
     answers::show(rt, mode.encipher(NUMBER, sector))?;
     print!(rt; "  key: ")?;
     answers::show(rt, mode.key(key, size))?;
-    for (i, byte) in sector.iter_mut().enumerate() {
-        *byte = (i % 256) as u8;
-    }
+    counting::fill(sector);
     show_ends(rt, "plain     ", sector)?;
     print!(rt; "  encipher: ")?;
     answers::show(rt, mode.encipher(NUMBER, sector))?;

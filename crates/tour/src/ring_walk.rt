@@ -1,5 +1,6 @@
 //! The hash sum of a sector, and the power sum that must have an inverse.
 
+use crate::counting;
 use rings::{BlockRing, sums};
 use std::io;
 
@@ -12,14 +13,6 @@ const TAU: u128 = 0x66e94bd4ef8a2c3b884cfa59ca342b2e;
 
 /// A cube root of 1: its powers add up to 0 three by three, and 1 + τ + .. + τ^32 has 33 of them.
 const CUBE_ROOT: u128 = 0x295ac0b1f4731af9676aac9fa4b20b09;
-
-fn counting_bytes() -> [u8; SECTOR_LENGTH] {
-    let mut sector = [0; SECTOR_LENGTH];
-    for (i, byte) in sector.iter_mut().enumerate() {
-        *byte = (i % 256) as u8;
-    }
-    sector
-}
 
 fn show_inverse(rt: &impl Print, sigma: u128) -> io::Result<()> {
     match sigma.inverse() {
@@ -40,7 +33,8 @@ fn show_power_sum(rt: &impl Print, tau: u128) -> io::Result<()> {
 }
 
 pub fn walk(rt: &impl Print) -> io::Result<()> {
-    let sector = counting_bytes();
+    let mut sector = [0; SECTOR_LENGTH];
+    counting::fill(&mut sector);
     let first = u128::from_bytes(&sector[0..16]);
     let last = u128::from_bytes(&sector[496..512]);
     println!(rt; "A sector of 512 bytes as 32 blocks of the ring of 16 bytes")?;

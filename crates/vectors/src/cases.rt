@@ -2,6 +2,7 @@
 
 use crate::table::{Script, Table};
 use console::session::run;
+use jobs::refusal::PlaceFault;
 use jobs::work;
 use std::alloc::Global;
 use std::io;
@@ -42,7 +43,7 @@ fn agrees(heap: Global, place: u32, record: &[u8], wanted: Option<&[u8]>) -> io:
             .as_slice()
             .get(..count)
             .is_some_and(|front| front == bytes),
-        (Err(fault), None) => fault.number() == 14,
+        (Err(PlaceFault::Short), None) => true,
         _ => false,
     })
 }

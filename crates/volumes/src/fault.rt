@@ -7,8 +7,8 @@ use std::error::Error;
 use std::fmt;
 use std::fmt::Display;
 
-// Stays: the console's `CallWord` has one more, and its crate knows nothing of volumes.
 /// The calls of a volume that are refused by name.
+// Stays: the console's `CallWord` has one more, and its crate knows nothing of volumes.
 #[derive(Clone, Copy, PartialEq, Eq, Debug)]
 pub enum CallName {
     Open,

@@ -128,7 +128,6 @@ impl<D: SectorDevice, M: WideMode> Volume<D, M> {
     pub fn report(&self) -> Phase
         ensures phase_is_told { result ≡ (view D.meaning M.state self.now).phase }
     {
-        let Volume { phase, .. } = self;
-        *phase
+        self.phase
     }
 }

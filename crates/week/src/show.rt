@@ -5,7 +5,7 @@ use std::fmt::Display;
 use std::io;
 use volumes::phase::Phase;
 
-// Stays: each program has its own words for an answer, and they share no crate that prints.
+// Stays: two arms in each program that prints an answer; a crate for them alone would be longer.
 fn call_answer<E: Display + Drop>(
     rt: &impl Print,
     answer: Option<Result<(), E>>,

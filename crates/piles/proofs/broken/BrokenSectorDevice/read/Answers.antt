@@ -1,5 +1,5 @@
 use Rattle.std.proofs.Common.{length, refl}
-use Rattle.devices.proofs.Answers.{passed, read_refused}
+use Rattle.devices.proofs.Answers.{read_refused}
 use Rattle.piles.specs.Broken.{broken_of}
 use Rattle.piles.proofs.Refuses.{refuses}
 use Rattle.piles.proofs.broken.BrokenSectorDevice.read.Goals as goal
@@ -10,8 +10,7 @@ returns c =
     let m = broken_of b.count b.fault in
     let s = c.args.sector in
     let buffer = c.args.buffer.now in
-    let ok = passed m s _ _ (length buffer) c.count.ensures c.size.ensures c.in_ok-check.ensures in
-    let refusal = refuses b.count b.fault s (length buffer) ok in
+    let refusal = refuses b.count b.fault s (length buffer) c.in_ok-admit.ensures in
     record {
       call_is_answered = refusal;
       device_stays = refl;
