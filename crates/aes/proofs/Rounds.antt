@@ -1,5 +1,5 @@
 -- The rounds as the code makes them, column by column.
-use Rattle.std.proofs.Common.{◌≡◌, ℕ, suc, ◌+◌, ◌-◌, ◌*◌, ◌^◌, ◌<◌, List, [], get_or, slice_index, sym, ap, ◌∙◌, arith, zero-add, lit<}
+use Rattle.std.proofs.Common.{◌≡◌, ℕ, suc, ◌+◌, ◌*◌, ◌^◌, ◌<◌, List, [], get_or, slice_index, sym, ap, ◌∙◌, arith, zero-add, lit<}
 use Rattle.std.specs.Simd.{first_chunks}
 use lib.Bits.{bit_xor}
 use Rattle.aes.specs.Aes.{byte, sub_word, State, column, columns, entry, entries, sbox, inv_sbox, sub_bytes, inv_sub_bytes, shift_rows, inv_shift_rows, mix_column, inv_mix_column, mix_columns, inv_mix_columns, add_round_key, rounds, inv_rounds}

@@ -21,6 +21,6 @@ loop-key-preserved c =
       omega (arith, short),
       taken.0,
       ap (inv_rounds w (length rest)) c.inv_round-columns.ensures
-      ∙ back w dw c.args.self.now.unmixed _ (state c.loop-key.columns) (length rest) key (omega (arith, short)) taken.1
-      (ap (λ n. inv_rounds w n (state c.loop-key.columns)) (sym long) ∙ c.loop-key.invariant.2),
+          ∙ back w dw c.args.self.now.unmixed _ (state c.loop-key.columns) (length rest) key (omega (arith, short)) taken.1
+          (ap (λ n. inv_rounds w n (state c.loop-key.columns)) (sym long) ∙ c.loop-key.invariant.2),
     )

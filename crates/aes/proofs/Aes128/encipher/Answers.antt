@@ -1,4 +1,4 @@
-use Rattle.std.proofs.Common.{rules, ◌≡◌}
+use Rattle.std.proofs.Common.{rules}
 use Rattle.aes.specs.Aes.{rounds}
 use Rattle.aes.proofs.Rounds.{forth}
 use Rattle.aes.proofs.Aes128.encipher.Goals as goal

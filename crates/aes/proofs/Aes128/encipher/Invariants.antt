@@ -1,4 +1,4 @@
-use Rattle.std.proofs.Common.{◌≡◌, ◌+◌}
+use Rattle.std.proofs.Common.{◌≡◌}
 use Rattle.aes.specs.Aes.{rounds, state_of}
 use Rattle.aes.specs.Columns.{state}
 use Rattle.aes.proofs.Aes128.encipher.Given as goal
