@@ -1,9 +1,8 @@
 -- The schedule as the code makes it, word by word.
-use Rattle.std.proofs.Common.{◌≡◌, ℕ, suc, ◌+◌, ◌-◌, ◌*◌, ◌/◌, ◌%◌, ◌^◌, ◌<◌, ◌≤◌, List, [], ◌∷◌, ◌++◌, length, get_or, take, set, sym, refl, ap, ◌∙◌, ap₂, arith, get_or-take}
+use Rattle.std.proofs.Common.{◌≡◌, ℕ, suc, ◌+◌, ◌-◌, ◌*◌, ◌/◌, ◌%◌, ◌^◌, ◌<◌, ◌≤◌, List, [], ◌∷◌, ◌++◌, length, get_or, take, set, sym, ap, ◌∙◌, ap₂, arith, get_or-take}
 use lib.Bits.{bit_or, bit_xor}
 use Rattle.std.proofs.lemmas.List.{take_more_set}
-use Rattle.aes.specs.Aes.{byte, sbox, sub_word, rot_word, temp, next, expansion}
-use Rattle.aes.specs.Columns.{substituted}
+use Rattle.aes.specs.Aes.{byte, rot_word, temp, next, expansion}
 use Rattle.aes.proofs.Bytes.{byte_lt, word_bytes, left_bytes}
 
 pub turned_left : (w : ℕ) → w < 2 ^ 32 → bit_or (w * 2 ^ 8 % 2 ^ 32) (w / 2 ^ 24) ≡ rot_word w
@@ -11,10 +10,6 @@ unfolding rot_word
 turned_left w h =
     ap (λ x. bit_or (x * 2 ^ 8 % 2 ^ 32) (x / 2 ^ 24)) (sym (word_bytes w h))
     ∙ left_bytes (byte 0 w) (byte 1 w) (byte 2 w) (byte 3 w) (byte_lt 0 w) (byte_lt 1 w) (byte_lt 2 w) (byte_lt 3 w)
-
-pub substituted_word : (w : ℕ) → substituted sbox w w w w ≡ sub_word w
-unfolding substituted sub_word
-substituted_word w = refl
 
 pub more : (key w : List ℕ) (i v : ℕ) → 4 ≤ i → i < length w → take i w ≡ expansion key (i - 4)
     → v ≡ temp i (get_or w (i - 1) 0) → take (i + 1) (set w i (bit_xor (get_or w (i - 4) 0) v)) ≡ expansion key (i + 1 - 4)

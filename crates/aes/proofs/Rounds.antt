@@ -1,11 +1,13 @@
 -- The rounds as the code makes them, column by column.
-use Rattle.std.proofs.Common.{◌≡◌, ℕ, suc, ◌+◌, ◌-◌, ◌*◌, ◌^◌, ◌<◌, ◌≤◌, List, get_or, slice_index, sym, ap, ◌∙◌, arith}
+use Rattle.std.proofs.Common.{◌≡◌, ℕ, suc, ◌+◌, ◌*◌, ◌^◌, ◌<◌, List, [], get_or, slice_index, sym, ap, ◌∙◌, arith, zero-add, lit<}
+use Rattle.std.specs.Simd.{first_chunks}
 use lib.Bits.{bit_xor}
 use Rattle.aes.specs.Aes.{byte, sub_word, State, column, columns, entry, entries, sbox, inv_sbox, sub_bytes, inv_sub_bytes, shift_rows, inv_shift_rows, mix_column, inv_mix_column, mix_columns, inv_mix_columns, add_round_key, rounds, inv_rounds}
 use Rattle.aes.specs.Columns.{substituted, mixed, round_word, inv_round_word, Unmixed}
 use Rattle.aes.specs.Laws.{Tabulates}
 use Rattle.aes.proofs.Boxes.{sbox_lt, inv_sbox_lt, sbox_undone}
 use Rattle.aes.proofs.Bytes.{byte_lt, byte_0, byte_1, byte_2, byte_3, word_cong, on_bytes, on_bytes_undone}
+use Rattle.aes.proofs.Chunks.{chunk_at}
 use Rattle.aes.proofs.Mixes.{inv_mix_linear, merged_cong, mix_merged, inv_mix_merged}
 use Rattle.aes.proofs.States.{same_state, gathered, gathered_0, gathered_1, gathered_2, gathered_3}
 
@@ -89,17 +91,24 @@ module _ (table : List ℕ) (s : State) where
   unfolding inv_mix_columns columns column
   inv_mixed_shifted holds = each_same _ _ (λ a b c d. mixed_back table holds a d c b) s ∙ ap inv_mix_columns (shift_back s)
 
+-- A round's own key is its four words of the schedule
+
+pub round_key : (w : List ℕ) (r : ℕ) (s : State) → r < 11 → add_round_key (get_or (first_chunks 4 11 w) r []) 0 s ≡ add_round_key w r s
+unfolding add_round_key columns column
+round_key w r s h =
+    let at : (x c : ℕ) → c < 4 → bit_xor x (get_or (get_or (first_chunks 4 11 w) r []) (4 * 0 + c) 0) ≡ bit_xor x (get_or w (4 * r + c) 0) =
+    λ x c l. ap (bit_xor x) (ap (λ n. get_or (get_or (first_chunks 4 11 w) r []) n 0) (zero-add c) ∙ chunk_at w 11 r c h l)
+    in
+    same_state _ _ (at s.c0 0 (lit< tt)) (at s.c1 1 (lit< tt)) (at s.c2 2 (lit< tt)) (at s.c3 3 (lit< tt))
+
 module _ (w : List ℕ) where
-  -- one round more, counted from 1
-  pub forth : (s t : State) (r : ℕ) → 1 ≤ r → t ≡ rounds w (r - 1) s
-      → add_round_key w r (mix_columns (shift_rows (sub_bytes t))) ≡ rounds w (r + 1 - 1) s
+  -- one round more
+  pub forth : (s t : State) (r : ℕ) → r < 9 → t ≡ rounds w r s
+      → add_round_key (get_or (first_chunks 4 11 w) (suc r) []) 0 (mix_columns (shift_rows (sub_bytes t))) ≡ rounds w (suc r) s
   unfolding rounds
-  forth s t r pos e =
-      let is : r ≡ suc (r - 1) = omega arith in
-      let next : suc (r - 1) ≡ r + 1 - 1 = omega arith in
-      ap (λ t. add_round_key w r (mix_columns (shift_rows (sub_bytes t)))) e
-      ∙ ap (λ k. add_round_key w k (mix_columns (shift_rows (sub_bytes (rounds w (r - 1) s))))) is
-      ∙ ap (λ k. rounds w k s) next
+  forth s t r h e =
+      round_key w (suc r) _ (omega arith)
+      ∙ ap (λ t. add_round_key w (suc r) (mix_columns (shift_rows (sub_bytes t)))) e
 
   module _ (dw : List ℕ) (unmixed : Unmixed w dw) where
     -- the round key added after InvMixColumns
@@ -112,11 +121,9 @@ module _ (w : List ℕ) where
         same_state _ _ (at s.c0 0 (omega arith)) (at s.c1 1 (omega arith)) (at s.c2 2 (omega arith)) (at s.c3 3 (omega arith))
 
     -- one round back
-    pub back : (s t : State) (r : ℕ) → 1 ≤ r → r < 11 → inv_rounds w r t ≡ s
-        → inv_rounds w (r - 1) (add_round_key dw r (inv_mix_columns (inv_sub_bytes (inv_shift_rows t)))) ≡ s
+    pub back : (s t : State) (r : ℕ) (key : List ℕ) → r < 10 → key ≡ get_or (first_chunks 4 11 dw) (suc r) [] → inv_rounds w (suc r) t ≡ s
+        → inv_rounds w r (add_round_key key 0 (inv_mix_columns (inv_sub_bytes (inv_shift_rows t)))) ≡ s
     unfolding inv_rounds
-    back s t r pos h e =
+    back s t r key h is e =
         let u = inv_sub_bytes (inv_shift_rows t) in
-        let is : r ≡ suc (r - 1) = omega arith in
-        ap (inv_rounds w (r - 1)) (swapped r u h ∙ ap (λ k. inv_mix_columns (add_round_key w k u)) is)
-        ∙ sym (ap (λ k. inv_rounds w k t) is) ∙ e
+        ap (inv_rounds w r) (ap (λ k. add_round_key k 0 (inv_mix_columns u)) is ∙ round_key dw (suc r) (inv_mix_columns u) (omega arith) ∙ swapped (suc r) u (omega arith)) ∙ e

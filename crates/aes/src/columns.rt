@@ -47,17 +47,16 @@ impl Columns {
         joined(self.c0, self.c1, self.c2, self.c3)
     }
 
+    /// A round's own key, four words of the schedule: as a schedule by itself it is the key of round 0.
     #[tactic(auto, unfolding(crate::specs::Aes::add_round_key, crate::specs::Aes::columns, crate::specs::Aes::column))]
-    // Stays: the standard's own arguments, the schedule and the number of a round, so that `round < 11` is asked three times.
-    pub(crate) fn add_round_key(self, w: &[u32; 44], round: usize) -> Columns
-        requires { round < 11 }
-        ensures { state result ≡ add_round_key w.now round (state self) }
+    pub(crate) fn add_round_key(self, key: &[u32; 4]) -> Columns
+        ensures { state result ≡ add_round_key key.now 0 (state self) }
     {
         Columns {
-            c0: self.c0 ^ w[4 * round],
-            c1: self.c1 ^ w[4 * round + 1],
-            c2: self.c2 ^ w[4 * round + 2],
-            c3: self.c3 ^ w[4 * round + 3],
+            c0: self.c0 ^ key[0],
+            c1: self.c1 ^ key[1],
+            c2: self.c2 ^ key[2],
+            c3: self.c3 ^ key[3],
         }
     }
 
@@ -79,39 +78,37 @@ impl Columns {
     }
 
     // Stays: the standard has these four rounds, each of its own steps; what they share is `of_each`.
-    pub(crate) fn round(self, w: &[u32; 44], round: usize) -> Columns
-        requires { round < 11 }
-        ensures { state result ≡ add_round_key w.now round (mix_columns (shift_rows (sub_bytes (state self)))) }
+    pub(crate) fn round(self, key: &[u32; 4]) -> Columns
+        ensures { state result ≡ add_round_key key.now 0 (mix_columns (shift_rows (sub_bytes (state self)))) }
     {
         let table = tables::round();
         self.of_each(|a, b, c, d| steps::substitute_and_mix(table, a, b, c, d))
-            .add_round_key(w, round)
+            .add_round_key(key)
     }
 
-    pub(crate) fn last_round(self, w: &[u32; 44]) -> Columns
-        ensures { state result ≡ add_round_key w.now 10 (shift_rows (sub_bytes (state self))) }
+    pub(crate) fn last_round(self, key: &[u32; 4]) -> Columns
+        ensures { state result ≡ add_round_key key.now 0 (shift_rows (sub_bytes (state self))) }
     {
         let table = tables::substitution();
         self.of_each(|a, b, c, d| steps::substitute(table, a, b, c, d))
-            .add_round_key(w, 10)
+            .add_round_key(key)
     }
 
     /// A round of the equivalent inverse cipher, whose round key comes after InvMixColumns. InvShiftRows takes the bytes from the
     /// same columns in the other order.
-    pub(crate) fn inv_round(self, dw: &[u32; 44], round: usize) -> Columns
-        requires { round < 11 }
-        ensures { state result ≡ add_round_key dw.now round (inv_mix_columns (inv_sub_bytes (inv_shift_rows (state self)))) }
+    pub(crate) fn inv_round(self, key: &[u32; 4]) -> Columns
+        ensures { state result ≡ add_round_key key.now 0 (inv_mix_columns (inv_sub_bytes (inv_shift_rows (state self)))) }
     {
         let table = tables::inv_round();
         self.of_each(|a, b, c, d| steps::substitute_and_mix(table, a, d, c, b))
-            .add_round_key(dw, round)
+            .add_round_key(key)
     }
 
-    pub(crate) fn inv_last_round(self, w: &[u32; 44]) -> Columns
-        ensures { state result ≡ add_round_key w.now 0 (inv_sub_bytes (inv_shift_rows (state self))) }
+    pub(crate) fn inv_last_round(self, key: &[u32; 4]) -> Columns
+        ensures { state result ≡ add_round_key key.now 0 (inv_sub_bytes (inv_shift_rows (state self))) }
     {
         let table = tables::inv_substitution();
         self.of_each(|a, b, c, d| steps::substitute(table, a, d, c, b))
-            .add_round_key(w, 0)
+            .add_round_key(key)
     }
 }

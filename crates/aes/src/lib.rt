@@ -63,27 +63,30 @@ impl Aes128 {
         &self.key
     }
 
-    #[tactic(auto, unfolding(crate::specs::Aes::rounds, crate::specs::Aes::cipher, crate::specs::Aes::encipher), using(crate::proofs::Rounds::forth))]
+    #[tactic(auto, unfolding(crate::specs::Aes::rounds, crate::specs::Aes::cipher, crate::specs::Aes::encipher), using(crate::proofs::Rounds::round_key))]
     pub fn encipher(&self, block: u128) -> u128
         ensures { result ≡ encipher self.now.key block }
     {
-        let mut columns = Columns::from_block(block).add_round_key(&self.w, 0);
-        for round in 1..10usize {
-            columns = columns.round(&self.w, round);
+        let (keys, _) = self.w.as_chunks::<4>();
+        let mut columns = Columns::from_block(block).add_round_key(&keys[0]);
+        for key in &keys[1..10] {
+            columns = columns.round(key);
         }
-        columns.last_round(&self.w).block()
+        columns.last_round(&keys[10]).block()
     }
 
-    #[tactic(auto, unfolding(crate::specs::Aes::inv_rounds, crate::specs::Aes::inv_cipher, crate::specs::Aes::decipher), using(crate::proofs::Rounds::back))]
+    #[tactic(auto, unfolding(crate::specs::Aes::inv_rounds, crate::specs::Aes::inv_cipher, crate::specs::Aes::decipher), using(crate::proofs::Rounds::round_key))]
     // Stays: the standard's two ciphers take other steps in another order.
     pub fn decipher(&self, block: u128) -> u128
         ensures { result ≡ decipher self.now.key block }
     {
-        let mut columns = Columns::from_block(block).add_round_key(&self.w, 10);
-        for round in (1..10usize).rev() {
-            columns = columns.inv_round(&self.dw, round);
+        let (keys, _) = self.w.as_chunks::<4>();
+        let (inv_keys, _) = self.dw.as_chunks::<4>();
+        let mut columns = Columns::from_block(block).add_round_key(&keys[10]);
+        for key in inv_keys[1..10].iter().rev() {
+            columns = columns.inv_round(key);
         }
-        columns.inv_last_round(&self.w).block()
+        columns.inv_last_round(&keys[0]).block()
     }
 }
 

@@ -38,11 +38,9 @@ pub(crate) fn expand(key: &[u8; 16]) -> [u32; 44]
     ensures { result ≡ key_expansion key.now }
 {
     let (words, _) = key.as_chunks::<4>();
+    let first: [u32; 4] = array::from_fn(|i| u32::from_be_bytes(words[i]));
     let mut w = [0; 44];
-    w[0] = u32::from_be_bytes(words[0]);
-    w[1] = u32::from_be_bytes(words[1]);
-    w[2] = u32::from_be_bytes(words[2]);
-    w[3] = u32::from_be_bytes(words[3]);
+    w[..4].copy_from_slice(&first);
     // Stays: each word is made of two that the loop has written before.
     for i in 4..44usize {
         w[i] = w[i - 4] ^ temp(i, w[i - 1]);

@@ -1,8 +1,8 @@
 -- The words of a key, four bytes each.
-use Rattle.std.proofs.Common.{◌≡◌, ℕ, zero, suc, ◌+◌, ◌*◌, ◌^◌, ◌<◌, List, [], get_or, drop, ap, ◌∙◌, le_of_suc-le-suc, not-suc-le-zero, arith, add-zero, zero-add, sym, lit<}
-use Rattle.std.proofs.lemmas.List.{get_or-drop, get_or-take}
+use Rattle.std.proofs.Common.{◌≡◌, ℕ, zero, suc, ◌+◌, ◌*◌, ◌^◌, ◌<◌, List, [], length, get_or, drop, refl, ap, ◌∙◌, le_of_suc-le-suc, not-suc-le-zero, arith, add-zero, zero-add, sym, lit<}
+use Rattle.std.proofs.lemmas.List.{get_or-drop, get_or-take, ext_get_or}
 use Rattle.std.specs.Simd.{first_chunks}
-use Rattle.xtea.specs.Xtea.{key_word}
+use Rattle.xtea.specs.Xtea.{key_word, key_words}
 
 chunk_at : (xs : List ℕ) (k i j : ℕ) → i < k → j < 4 → get_or (get_or (first_chunks 4 k xs) i []) j 0 ≡ get_or xs (4 * i + j) 0
 chunk_at xs zero i j h l = absurd (not-suc-le-zero h)
@@ -20,3 +20,16 @@ word_at key i h =
     let e2 = chunk_at key 4 i 2 h (lit< tt) in
     let e3 = chunk_at key 4 i 3 h (lit< tt) in
     cc
+
+-- the four words, from what each is
+entry : (key : List ℕ) (i : ℕ) → i < 4 → get_or (key_words key) i 0 ≡ key_word key i
+unfolding key_words
+entry key zero h = refl
+entry key (suc zero) h = refl
+entry key (suc (suc zero)) h = refl
+entry key (suc (suc (suc zero))) h = refl
+entry key (suc (suc (suc (suc i)))) h = absurd (not-suc-le-zero (le_of_suc-le-suc (le_of_suc-le-suc (le_of_suc-le-suc (le_of_suc-le-suc h)))))
+
+pub words_are : (key ws : List ℕ) → length ws ≡ 4 → ((i : ℕ) → i < 4 → get_or ws i 0 ≡ key_word key i) → ws ≡ key_words key
+unfolding key_words
+words_are key ws long at = ext_get_or 0 ws (key_words key) long (λ i h. at i (rw long at h) ∙ sym (entry key i (rw long at h)))

@@ -8,6 +8,8 @@ ghost use Rattle.std.specs.Prelude.{◌≡◌, ℕ, ◌+◌, ◌*◌, ◌/◌, �
 ghost use Rattle.xtea.specs.Laws.{Undoing};
 ghost use Rattle.xtea.specs.Xtea.{change, key_words, encipher as enciphered, decipher as deciphered};
 
+use std::array;
+
 const ROUNDS: u32 = 32;
 
 const DELTA: u32 = 0x9e37_79b9;
@@ -23,17 +25,11 @@ fn change_by(v: u32, s: u32, k: u32) -> u32
     ((v << 4) ^ (v >> 5)).wrapping_add(v) ^ s.wrapping_add(k)
 }
 
-#[tactic(auto, unfolding(crate::specs::Xtea::key_words), using(crate::proofs::Chunks::word_at))]
 fn key_words(key: &[u8; 16]) -> [u32; 4]
     ensures { result ≡ key_words key.now }
 {
     let (words, _) = key.as_chunks::<4>();
-    [
-        u32::from_be_bytes(words[0]),
-        u32::from_be_bytes(words[1]),
-        u32::from_be_bytes(words[2]),
-        u32::from_be_bytes(words[3]),
-    ]
+    array::from_fn(|i| u32::from_be_bytes(words[i]))
 }
 
 fn words_of(block: u64) -> (u32, u32)

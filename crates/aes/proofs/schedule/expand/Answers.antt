@@ -1,7 +1,23 @@
-use Rattle.std.proofs.Common.{◌≡◌, ◌-◌, ◌<◌, ◌≤◌, length, sym, ap, ◌∙◌, arith, length-set, take_all}
-use Rattle.aes.specs.Aes.{expansion, key_expansion}
+use Rattle.std.proofs.Common.{rules, ◌≡◌, ℕ, List, ◌++◌, take, get_or, ◌-◌, ◌<◌, ◌≤◌, length, sym, ap, ◌∙◌, arith, length-set, take_all}
+use Rattle.std.proofs.Math.Seq.{take-append_seam}
+use Rattle.aes.specs.Aes.{word, expansion, key_word, key_expansion}
+use Rattle.aes.proofs.Chunks.{word_at, words_are}
 use Rattle.aes.proofs.Expansion.{more}
 use Rattle.aes.proofs.schedule.expand.Goals as goal
+
+pub loop-i-init : goal.loop-i-init
+unfolding key_word word
+loop-i-init c =
+    let key = c.args.key.now in
+    let words = c.from_fn-first.result in
+    let at : (i : ℕ) → i < 4 → get_or words i 0 ≡ key_word key i = λ i h. search (rules, word_at) in
+    let made : words ≡ expansion key 0 = words_are key words c.from_fn-first.ensures.items.long at in
+    let new = c.copy_from_slice.new.self in
+    let long : length new ≡ 4 = ap length c.copy_from_slice.ensures.after ∙ c.from_fn-first.ensures.items.long in
+    let front : (z : List ℕ) → take 4 (new ++ z) ≡ new = λ z. ap (λ n. take n (new ++ z)) (sym long) ∙ take-append_seam new z in (
+      search (rules, long),
+      front _ ∙ c.copy_from_slice.ensures.after ∙ made,
+    )
 
 pub loop-i-preserved : goal.loop-i-preserved
 loop-i-preserved c =

@@ -10,4 +10,4 @@ returns c =
     let table = c.inv_round-table.result.now in
     let s = state c.args.self in
     let made : state c.of_each.result ≡ each_back (mixed (slice_index table)) s = same_state _ _ (search rules) (search rules) (search rules) (search rules) in
-    c.add_round_key.ensures ∙ ap (add_round_key c.args.dw.now c.args.round) (made ∙ inv_mixed_shifted table s c.inv_round-table.ensures)
+    c.add_round_key.ensures ∙ ap (add_round_key c.args.key.now 0) (made ∙ inv_mixed_shifted table s c.inv_round-table.ensures)

@@ -10,4 +10,4 @@ returns c =
     let table = c.substitution-table.result.now in
     let s = state c.args.self in
     let made : state c.of_each.result ≡ each (substituted (slice_index table)) s = same_state _ _ (search rules) (search rules) (search rules) (search rules) in
-    c.add_round_key.ensures ∙ ap (add_round_key c.args.w.now 10) (made ∙ shifted table s c.substitution-table.ensures)
+    c.add_round_key.ensures ∙ ap (add_round_key c.args.key.now 0) (made ∙ shifted table s c.substitution-table.ensures)
