@@ -51,7 +51,8 @@ fn last<const N: usize>(bytes: &[u8]) -> [u8; N]
     end
 }
 
-// Stays: what is left is each ring's own: its constants, and casts, which name their types.
+// Stays: one body of `of_bytes`, by `FromBytes<Bytes = [u8; N]>`, was tried. It asks three laws of each word, which bytes
+// it reads, their number and N: longer than the function. The constants and laws are each ring's own.
 impl Modulus for u8 {
     ghost ring = { ring1 };
 
