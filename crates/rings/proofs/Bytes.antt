@@ -1,10 +1,14 @@
 -- Blocks and their bytes.
+use Rattle.std.specs.Prelude.{◌≤ℤ◌, ℤ, pos, negsuc, unsigned_abs}
 use Rattle.std.proofs.Common.{◌≡◌, ℕ, zero, suc, ◌+◌, ◌-◌, ◌*◌, ◌/◌, ◌%◌, ◌^◌, ◌<◌, ◌≤◌, List, [], ◌∷◌, ◌++◌, length, get_or, take, drop, set, sym, refl, ap, ◌∙◌, subst, lt_of_lt_of_le, mul-le-mul_right, mul_assoc, suc-mul, mul_comm, pow-suc, zero-mul, mul-suc, div-mul-le_self, div-one, add-one, arith, length-append, length-take, pow-add}
 use native.Mathlib.Nat.{mul-add-mod_self_right, pow-le-pow_right, pow-succ', pow-zero, div-eq_of_lt, div-div-eq-div-mul}
 use native.Mathlib.Decide.{dec_lt}
 use lib.Bits.{bit_xor, xor_mod, xor_shifted}
 use Rattle.std.specs.Int.Digits.{number_from_digits, AllBelowBase}
 use Rattle.std.proofs.lemmas.Nat.{div-add-mod'}
+use Rattle.std.proofs.lemmas.Int.{ints}
+use Rattle.std.proofs.Math.Pow.{mod-mod-pow}
+use Rattle.num_traits.specs.Laws.{wrap_unsigned}
 use Rattle.std.proofs.lemmas.Int.Digits.{number_lt}
 use Rattle.std.proofs.ByRecursion.{All-take, All-drop}
 use Rattle.std.proofs.lemmas.List.{drop-drop, get_or_append_left, get_or-append_right, take_more, take_more_set}
@@ -13,6 +17,13 @@ use Rattle.rings.specs.Blocks.{bytes_of, block_at, first_blocks}
 pub pow_bytes : (w : ℕ) → 256 ^ w ≡ 2 ^ (8 * w)
 pow_bytes zero = refl
 pow_bytes (suc w) = pow-suc 256 w ∙ ap (λ (n : ℕ). n * 256) (pow_bytes w) ∙ sym (ap (λ (n : ℕ). 2 ^ n) (mul-suc 8 w) ∙ pow-add 2 (8 * w) 8)
+
+-- the lowest byte of a word of `n` bits, cast from its integer
+pub cast_byte : (w n b r : ℕ) (z : ℤ) → 1 ≤ w → 8 * w ≡ n → pos 0 ≤ℤ z → ((k : ℕ) → z ≡ pos k → b ≡ k) → pos r ≡ wrap_unsigned 8 z → r ≡ b % 2 ^ n % 256
+cast_byte w n b r (negsuc k) some is up h e = absurd (omega (arith, ints))
+cast_byte w n b r (pos k) some is up h e =
+    let over : n - 8 + 8 ≡ n = omega (arith, some, is) in
+    ap unsigned_abs e ∙ ap (λ (x : ℕ). x % 256) (sym (h k refl)) ∙ sym (subst (λ (m : ℕ). b % 2 ^ m % 256 ≡ b % 256) over (mod-mod-pow b (n - 8) 8))
 
 -- ---- one byte more
 

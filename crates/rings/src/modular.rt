@@ -1,18 +1,19 @@
 //! The block rings of 1, 8 and 16 bytes, on the machine's own numbers.
 
-ghost use Rattle.std.specs.Prelude.{◌≡◌, ℕ, ◌-◌, ◌*◌, ◌%◌, ◌^◌, ◌<◌, refl};
+ghost use Rattle.std.specs.Prelude.{◌≡◌, ℕ, ◌-◌, ◌*◌, ◌%◌, ◌^◌, ◌<◌, pos, refl};
 ghost use Rattle.std.specs.Int.Digits.{number_from_digits};
 ghost use Rattle.polynomials.specs.Inverse.{inverse as inverse_of};
 ghost use Rattle.polynomials.specs.Polynomial.{product};
-ghost use Rattle.rings.specs.Ring.{RingKind};
+ghost use Rattle.rings.specs.Ring.{RingKind, size};
 ghost use Rattle.rings.specs.Rings.{ring1, ring8, ring16};
-ghost use Rattle.std.proofs.Common.{subst, sym};
+ghost use Rattle.std.proofs.Common.{rules, subst, sym};
 
 use crate::BlockRing;
+use num_traits::{AsPrimitive, PrimInt, Unsigned};
 use words::{Word, arithmetic};
 
 /// What the ring modulo x^n + low has of its own, where a machine's word of n bits holds a block.
-trait Modulus: Word {
+trait Modulus: PrimInt + Unsigned + AsPrimitive<u8> {
     ghost ring: { RingKind };
 
     const LOW: Self;
@@ -24,23 +25,19 @@ trait Modulus: Word {
 
     ghost LONGEST: { ℕ };
 
-    fn of_number(number: u64) -> Self
-        ensures { Self.value result ≡ number % 2 ^ Self.size };
-
     /// The word that the bytes write, the highest first; of more than it holds the last count.
     fn of_bytes(bytes: &[u8]) -> Self
-        ensures { Self.value result ≡ number_from_digits 256 bytes.now % 2 ^ Self.size };
+        ensures { ⟦<Self as Word>⟧.value result ≡ number_from_digits 256 bytes.now % size ring };
 
-    fn low_byte(self) -> u8
-        ensures { result ≡ Self.value self % 256 };
+    ghost width_is: { 8 * ring.width ≡ ⟦<Self as Word>⟧.size };
 
-    ghost width_is: { 8 * ring.width ≡ Self.size };
+    ghost wrap_is: { (n : ℕ) → Self.wrap (pos n) ≡ pos (n % size ring) };
 
     ghost longest_is: { LONGEST ≡ ring.longest };
 
-    ghost product_is: { (a b : ℕ) → ring.product a b ≡ product Self.size (Self.value LOW) a b };
+    ghost product_is: { (a b : ℕ) → ring.product a b ≡ product ⟦<Self as Word>⟧.size (⟦<Self as Word>⟧.value LOW) a b };
 
-    ghost inverse_is: { (a : ℕ) → ring.inverse a ≡ inverse_of Self.size (Self.value LOW) a };
+    ghost inverse_is: { (a : ℕ) → ring.inverse a ≡ inverse_of ⟦<Self as Word>⟧.size (⟦<Self as Word>⟧.value LOW) a };
 }
 
 /// The last `N` bytes, with zeros before them where there are fewer.
@@ -54,7 +51,8 @@ fn last<const N: usize>(bytes: &[u8]) -> [u8; N]
     end
 }
 
-// Stays: what is left is each ring's own: its constants, and casts, which name their types.
+// Stays: one body of `of_bytes`, by `FromBytes<Bytes = [u8; N]>`, was tried. It asks three laws of each word, which bytes
+// it reads, their number and N: longer than the function. The constants and laws are each ring's own.
 impl Modulus for u8 {
     ghost ring = { ring1 };
 
@@ -66,19 +64,13 @@ impl Modulus for u8 {
 
     ghost LONGEST = { 31 };
 
-    fn of_number(number: u64) -> u8 {
-        (number & 255) as u8
-    }
-
     fn of_bytes(bytes: &[u8]) -> u8 {
         u8::from_be_bytes(last(bytes))
     }
 
-    fn low_byte(self) -> u8 {
-        self
-    }
-
     ghost width_is = { refl };
+
+    ghost wrap_is = { λ n. refl };
 
     ghost longest_is = { refl };
 
@@ -98,19 +90,13 @@ impl Modulus for u64 {
 
     ghost LONGEST = { 4096 };
 
-    fn of_number(number: u64) -> u64 {
-        number
-    }
-
     fn of_bytes(bytes: &[u8]) -> u64 {
         u64::from_be_bytes(last(bytes))
     }
 
-    fn low_byte(self) -> u8 {
-        (self & 255) as u8
-    }
-
     ghost width_is = { refl };
+
+    ghost wrap_is = { λ n. refl };
 
     ghost longest_is = { refl };
 
@@ -130,19 +116,13 @@ impl Modulus for u128 {
 
     ghost LONGEST = { 4096 };
 
-    fn of_number(number: u64) -> u128 {
-        number as u128
-    }
-
     fn of_bytes(bytes: &[u8]) -> u128 {
         u128::from_be_bytes(last(bytes))
     }
 
-    fn low_byte(self) -> u8 {
-        (self & 255) as u8
-    }
-
     ghost width_is = { refl };
+
+    ghost wrap_is = { λ n. refl };
 
     ghost longest_is = { refl };
 
@@ -151,12 +131,15 @@ impl Modulus for u128 {
     ghost inverse_is = { λ a. refl };
 }
 
-impl<T: Modulus> BlockRing for T {
+impl<T: Modulus> BlockRing for T
+where
+    u64: AsPrimitive<T>,
+{
     ghost ring = { T.Modulus.ring };
 
-    ghost value = { T.Word.value };
+    ghost value = { ⟦<T as Word>⟧.value };
 
-    ghost below = { λ a. subst (λ n. T.Word.value a < 2 ^ n) (sym T.width_is) (T.Word.below a) };
+    ghost below = { λ a. subst (λ n. ⟦<T as Word>⟧.value a < 2 ^ n) (sym T.width_is) (Prim.search rules) };
 
     fn width() -> usize {
         (T::bits() / 8) as usize
@@ -167,7 +150,7 @@ impl<T: Modulus> BlockRing for T {
     }
 
     fn from_number(number: u64) -> T {
-        T::of_number(number)
+        number.as_()
     }
 
     fn add(self, other: T) -> T {
@@ -187,12 +170,12 @@ impl<T: Modulus> BlockRing for T {
     }
 
     fn pushed(self, byte: u8) -> T {
-        Word::add(self.shifted(8), T::of_number(byte as u64))
+        Word::add(self.shifted(8), T::from_number(byte as u64))
     }
 
     fn byte(self, index: usize) -> u8 {
         if index < Self::width() {
-            self.lowered(8 * index as u32).low_byte()
+            self.lowered(8 * index as u32).as_()
         } else {
             0
         }
