@@ -75,8 +75,8 @@ impl Aes128 {
         columns.last_round(&keys[10]).block()
     }
 
-    #[tactic(auto, unfolding(crate::specs::Aes::inv_rounds, crate::specs::Aes::inv_cipher, crate::specs::Aes::decipher), using(crate::proofs::Rounds::round_key))]
     // Stays: the standard's two ciphers take other steps in another order.
+    #[tactic(auto, unfolding(crate::specs::Aes::inv_rounds, crate::specs::Aes::inv_cipher, crate::specs::Aes::decipher), using(crate::proofs::Rounds::round_key))]
     pub fn decipher(&self, block: u128) -> u128
         ensures { result ≡ decipher self.now.key block }
     {
