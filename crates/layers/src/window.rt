@@ -30,6 +30,7 @@ impl<D: SectorDevice> Window<D> {
     }
 }
 
+// Stays: a fault list's lines are alike, and hand on to the device below too; each has its own definition in every clause.
 impl<D: SectorDevice> SectorDevice for Window<D> {
     ghost meaning = { λ w. window_of w.start w.wanted (D.SectorDevice.meaning w.device) };
 

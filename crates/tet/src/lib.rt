@@ -123,6 +123,7 @@ impl<C: BlockCipher> Tet<C> {
     }
 }
 
+// Stays: HEH's lines are alike, and hand on to its own methods: what a trait is for.
 impl<C: BlockCipher> WideMode for Tet<C> {
     ghost use Rattle.tet.specs.State.{tet_state, state_fits};
 
