@@ -106,9 +106,7 @@ impl<M: WideMode> Subject<M> {
         let bytes = (image.len() & 0xffff_ffff) as u32;
         let mut volume = Volume::new(Image::new(image, (size & 0xffff) as u32), mode, other);
         let opened = volume.open(keys.old).is_ok();
-        let time = best(rt, plan, || {
-            opened && sweep(&mut volume, keys.new)
-        })?;
+        let time = best(rt, plan, || { opened && sweep(&mut volume, keys.new) })?;
         print!(rt; "{name} {size} ")?;
         plan.tell_rate(rt, "sweep", bytes, time)
     }
