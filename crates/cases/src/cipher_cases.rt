@@ -39,6 +39,7 @@ pub fn answer(
     key: &str,
     text: &str,
 ) -> anyhow::Result<String> {
+    // Stays: each arm has another type, which a name of the table picks.
     match name {
         "aes-128" => with_cipher::<Aes128>(heap, direction, key, text),
         "xtea" => with_cipher::<Xtea>(heap, direction, key, text),

@@ -38,6 +38,7 @@ pub fn answer(
     a: &str,
     b: &str,
 ) -> anyhow::Result<String> {
+    // Stays: each arm has another type, which a width of the table picks.
     match width {
         "1" => on_ring::<u8>(heap, operation, a, b),
         "8" => on_ring::<u64>(heap, operation, a, b),
