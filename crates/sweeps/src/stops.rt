@@ -31,7 +31,7 @@ fn written(sector: u32, version: u32) -> [u8; SIZE] {
 }
 
 /// Does the sector read as it was written?
-// Stays: device, sector and version are what each check is about, in four functions of two lines.
+// Stays: device, sector and version are what each check is about; a struct of the three would be made anew for each check.
 fn reads<D: SectorDevice>(device: &mut D, sector: u32, version: u32) -> bool {
     let mut buffer = [0; SIZE];
     device.read(sector, &mut buffer).is_ok() && buffer == written(sector, version)

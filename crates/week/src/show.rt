@@ -5,7 +5,7 @@ use std::fmt::Display;
 use std::io;
 use volumes::phase::Phase;
 
-// Stays: two arms in each program that prints an answer; a crate for them alone would be longer.
+// Stays: a few arms in each program that prints an answer, here one more for a call that was not made; a crate for them alone would be longer.
 fn call_answer<E: Display + Drop>(
     rt: &impl Print,
     answer: Option<Result<(), E>>,
