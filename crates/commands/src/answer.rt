@@ -27,7 +27,7 @@ impl fmt::Display for Answer<Vec<u8>> {
 
     fn fmt<W: fmt::Write>(&self, f: &mut fmt::Formatter<W>) -> fmt::Result {
         match self {
-            Answer::Done => write!(f, "ok"),
+            Answer::Done => f.write_str("ok"),
             Answer::Bytes(bytes) => {
                 let bytes = Written(bytes.as_slice());
                 write!(f, "ok {bytes}")
@@ -40,9 +40,8 @@ impl fmt::Display for Answer<Vec<u8>> {
             } => write!(f, "fault {number} sector {sector} depth {depth}"),
             Answer::Reported { phase, mark } => write!(f, "report {phase} {mark}"),
             Answer::Wrong(wrong) => write!(f, "? {wrong}"),
-            Answer::Help => write!(
-                f,
-                "image SIZE HEX; load SIZE PATH; fault N; volume tet|heh aes-128|xtea|mask-1|mask-8|mask-16; open KEY; read N; write N HEX; begin KEY; step [COUNT]; report; show; save PATH; help"
+            Answer::Help => f.write_str(
+                "image SIZE HEX; load SIZE PATH; fault N; volume tet|heh aes-128|xtea|mask-1|mask-8|mask-16; open KEY; read N; write N HEX; begin KEY; step [COUNT]; report; show; save PATH; help",
             ),
         }
     }

@@ -47,27 +47,32 @@ pub enum Wrong {
     NoMemory,
 }
 
+impl Wrong {
+    pub fn message(self) -> &'static str
+        ensures { result.now ≡ wrong_text self }
+    {
+        match self {
+            Wrong::NoSuchCommand => "no such command; try help",
+            Wrong::WrongWords => "too few words or too many",
+            Wrong::NotANumber => "not a number below 4294967296",
+            Wrong::NotHexadecimal => "not bytes in hexadecimal",
+            Wrong::NoSuchMode => "the modes are tet and heh",
+            Wrong::NoSuchCipher => "the ciphers are aes-128, xtea, mask-1, mask-8 and mask-16",
+            Wrong::NoImage => "there is no image",
+            Wrong::NoVolume => "there is no volume",
+            Wrong::FaultAfterVolume => "faults come before the volume",
+            Wrong::NoSuchFile => "the file cannot be read",
+            Wrong::NotSaved => "the file cannot be written",
+            Wrong::NoMemory => "there is not enough memory",
+        }
+    }
+}
+
 impl fmt::Display for Wrong {
     ghost output = { λ wrong. Some (wrong_text wrong) };
 
     fn fmt<W: fmt::Write>(&self, f: &mut fmt::Formatter<W>) -> fmt::Result {
-        match self {
-            Wrong::NoSuchCommand => write!(f, "no such command; try help"),
-            Wrong::WrongWords => write!(f, "too few words or too many"),
-            Wrong::NotANumber => write!(f, "not a number below 4294967296"),
-            Wrong::NotHexadecimal => write!(f, "not bytes in hexadecimal"),
-            Wrong::NoSuchMode => write!(f, "the modes are tet and heh"),
-            Wrong::NoSuchCipher => write!(
-                f,
-                "the ciphers are aes-128, xtea, mask-1, mask-8 and mask-16"
-            ),
-            Wrong::NoImage => write!(f, "there is no image"),
-            Wrong::NoVolume => write!(f, "there is no volume"),
-            Wrong::FaultAfterVolume => write!(f, "faults come before the volume"),
-            Wrong::NoSuchFile => write!(f, "the file cannot be read"),
-            Wrong::NotSaved => write!(f, "the file cannot be written"),
-            Wrong::NoMemory => write!(f, "there is not enough memory"),
-        }
+        f.write_str(self.message())
     }
 }
 

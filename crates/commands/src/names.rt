@@ -31,16 +31,24 @@ pub enum CallWord {
     Step,
 }
 
+impl CallWord {
+    pub fn word(self) -> &'static str
+        ensures { result.now ≡ call_word self }
+    {
+        match self {
+            CallWord::Fault => "fault",
+            CallWord::Open => "open",
+            CallWord::Begin => "begin",
+            CallWord::Step => "step",
+        }
+    }
+}
+
 impl fmt::Display for CallWord {
     ghost output = { λ call. Some (call_word call) };
 
     fn fmt<W: fmt::Write>(&self, f: &mut fmt::Formatter<W>) -> fmt::Result {
-        match self {
-            CallWord::Fault => write!(f, "fault"),
-            CallWord::Open => write!(f, "open"),
-            CallWord::Begin => write!(f, "begin"),
-            CallWord::Step => write!(f, "step"),
-        }
+        f.write_str(self.word())
     }
 }
 

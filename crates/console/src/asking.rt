@@ -36,7 +36,8 @@ impl<T: Terminal> Session<'_, T> {
         }
     }
 
-    /// The next command. Help and what is wrong with a line are told here.
+    /// The next command. Help and what is wrong with a line are told here, and that there is an image, before what it replaces
+    /// is let go.
     pub fn ask(&mut self) -> io::Result<Option<Command<Vec<u8>>>> {
         for _ in 0..u64::MAX {
             let Some(line) = self.terminal.next_line()? else {
@@ -44,6 +45,10 @@ impl<T: Terminal> Session<'_, T> {
             };
             match self.read(line.as_slice()) {
                 Ok(Command::Help) => self.tell(Ok(Answer::Help))?,
+                Ok(Command::Image { size, bytes }) => {
+                    self.tell(Ok(Answer::Done))?;
+                    return Ok(Some(Command::Image { size, bytes }));
+                }
                 Ok(command) => return Ok(Some(command)),
                 Err(wrong) => self.tell(Err(wrong))?,
             }

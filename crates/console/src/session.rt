@@ -112,7 +112,6 @@ impl<T: Terminal> Session<'_, T> {
 
     /// Serves an image and the volumes made on it.
     fn serve_image(&mut self, size: u32, bytes: Vec<u8>) -> io::Result<Option<Command<Vec<u8>>>> {
-        self.tell(Ok(Answer::Done))?;
         let faults = Vec::new(self.heap);
         let mut base = Base {
             size,

@@ -5,13 +5,14 @@
 
 #![tactic(auto)]
 
-ghost use Rattle.std.specs.Prelude.{◌≡◌, true, Some, None, IfOk};
-ghost use Rattle.std.specs.Result.{result_err};
+ghost use Rattle.std.specs.Prelude.{◌≡◌, None, refl};
 ghost use Rattle.modes.specs.Faults.{answered};
 ghost use Rattle.modes.specs.Mode.{keyed_after, obstacle, ciphered};
 ghost use Rattle.heh_theory.specs.Heh.{size_fits, encipher, decipher, encipher_sector, decipher_sector};
 ghost use Rattle.heh_theory.specs.State.{refusal, obstacle_with};
+ghost use Rattle.heh_theory.proofs.Refusals.{held_fits};
 ghost use Rattle.heh.specs.Kind.{kind_over};
+ghost use Rattle.heh.specs.State.{state_of};
 
 use ciphers::BlockCipher;
 use modes::{ModeFault, WideMode};
@@ -20,18 +21,11 @@ use rings::BlockRing;
 mod psi;
 mod sectors;
 
-/// HEH under a key for one sector size, or blank.
+/// A cipher under its key, and the sector size in bytes. Blank where the size is none that the mode takes.
 #[derive(Drop)]
-pub struct Heh<C: BlockCipher> {
-    keyed: Option<Keyed<C>>,
-}
-
-/// A cipher under its key, and a sector size in bytes that the mode takes.
-#[derive(Drop)]
-struct Keyed<C: BlockCipher> {
+pub struct Heh<C> {
     cipher: C,
     size: usize,
-    ghost fits: { size_fits C.BlockCipher.kind.ring size ≡ true },
 }
 
 /// Is it a multiple of w, from w to the greatest length?
@@ -43,106 +37,103 @@ fn takes<R: BlockRing>(size: usize) -> bool
 }
 
 impl<C: BlockCipher> Heh<C> {
-    ghost use Rattle.heh.specs.State.{state_of};
-
     /// A blank mode.
     pub fn new() -> Heh<C>
-        ensures blank { state_of result ≡ None }
+        ensures blank { state_of C.BlockCipher.kind C.BlockCipher.held result ≡ None }
     {
-        Heh { keyed: None }
+        Heh {
+            cipher: C::new(),
+            size: 0,
+        }
     }
 
     /// Holds the key for sectors of `size` bytes, or refuses them and stays as it was.
     pub fn key(&mut self, key: &[u8], size: usize) -> Result<(), ModeFault>
         ensures answer { result ≡ answered (refusal C.BlockCipher.kind key.now size) }
-        ensures pair_is_held { state_of self.new ≡ keyed_after (refusal C.BlockCipher.kind key.now size) key.now size (state_of self.old) }
+        ensures pair_is_held { state_of C.BlockCipher.kind C.BlockCipher.held self.new ≡ keyed_after (refusal C.BlockCipher.kind key.now size) key.now size (state_of C.BlockCipher.kind C.BlockCipher.held self.old) }
     {
         let mut cipher = C::new();
         cipher.set_key(key)?;
         if !takes::<C::Ring>(size) {
             return Err(ModeFault::WrongSize);
         }
-        self.keyed = Some(Keyed { cipher, size });
+        self.cipher = cipher;
+        self.size = size;
         Ok(())
     }
 
-    /// The key, for a buffer of its size.
-    fn admit(&self, buffer: &[u8]) -> Result<&Keyed<C>, ModeFault>
-        ensures fault { result_err result ≡ obstacle (state_of self.now) buffer.now }
-        ensures key { IfOk result (λ k. self.now.keyed ≡ Some k.now) }
+    /// Refuses a buffer of another length than the size, and any buffer where the mode is blank.
+    fn admit(&self, buffer: &[u8]) -> Result<(), ModeFault>
+        ensures answer { result ≡ answered (obstacle (state_of C.BlockCipher.kind C.BlockCipher.held self.now) buffer.now) }
     {
-        let keyed = self.keyed.as_ref().ok_or(ModeFault::WrongLength)?;
-        if buffer.len() != keyed.size {
+        if !takes::<C::Ring>(self.size) || buffer.len() != self.size {
             return Err(ModeFault::WrongLength);
         }
-        Ok(keyed)
+        Ok(())
     }
 
-    /// The key, for such a buffer and a tweak of one block.
-    fn admit_with_tweak(&self, tweak: &[u8], buffer: &[u8]) -> Result<&Keyed<C>, ModeFault>
-        ensures fault { result_err result ≡ obstacle_with C.BlockCipher.kind (state_of self.now) tweak.now buffer.now }
-        ensures key { IfOk result (λ k. self.now.keyed ≡ Some k.now) }
+    /// Refuses such a buffer, and then a tweak that is not one block long.
+    fn admit_with_tweak(&self, tweak: &[u8], buffer: &[u8]) -> Result<(), ModeFault>
+        ensures answer { result ≡ answered (obstacle_with C.BlockCipher.kind (state_of C.BlockCipher.kind C.BlockCipher.held self.now) tweak.now buffer.now) }
     {
-        let keyed = self.admit(buffer)?;
+        self.admit(buffer)?;
         if tweak.len() != C::Ring::width() {
             return Err(ModeFault::WrongTweak);
         }
-        Ok(keyed)
+        Ok(())
     }
 
     /// Enciphers a sector in place, with a tweak of one block.
     pub fn encipher_with_tweak(&self, tweak: &[u8], buffer: &mut [u8]) -> Result<(), ModeFault>
-        ensures answer { result ≡ answered (obstacle_with C.BlockCipher.kind (state_of self.now) tweak.now buffer.old) }
-        ensures buffer_is_enciphered { buffer.new ≡ ciphered (λ key size. encipher C.BlockCipher.kind key size tweak.now) (state_of self.now) (obstacle_with C.BlockCipher.kind (state_of self.now) tweak.now buffer.old) buffer.old }
+        ensures answer { result ≡ answered (obstacle_with C.BlockCipher.kind (state_of C.BlockCipher.kind C.BlockCipher.held self.now) tweak.now buffer.old) }
+        ensures buffer_is_enciphered { buffer.new ≡ ciphered (λ key size. encipher C.BlockCipher.kind key size tweak.now) (state_of C.BlockCipher.kind C.BlockCipher.held self.now) (obstacle_with C.BlockCipher.kind (state_of C.BlockCipher.kind C.BlockCipher.held self.now) tweak.now buffer.old) buffer.old }
     {
-        let keyed = self.admit_with_tweak(tweak, buffer)?;
-        sectors::encipher(&keyed.cipher, C::Ring::from_bytes(tweak), buffer);
+        self.admit_with_tweak(tweak, buffer)?;
+        sectors::encipher(&self.cipher, C::Ring::from_bytes(tweak), buffer);
         Ok(())
     }
 
     /// Deciphers a sector in place, with a tweak of one block.
     // Stays: the two directions are two calls, with a clause each; what they share is `admit_with_tweak` and `wrap`.
     pub fn decipher_with_tweak(&self, tweak: &[u8], buffer: &mut [u8]) -> Result<(), ModeFault>
-        ensures answer { result ≡ answered (obstacle_with C.BlockCipher.kind (state_of self.now) tweak.now buffer.old) }
-        ensures buffer_is_deciphered { buffer.new ≡ ciphered (λ key size. decipher C.BlockCipher.kind key size tweak.now) (state_of self.now) (obstacle_with C.BlockCipher.kind (state_of self.now) tweak.now buffer.old) buffer.old }
+        ensures answer { result ≡ answered (obstacle_with C.BlockCipher.kind (state_of C.BlockCipher.kind C.BlockCipher.held self.now) tweak.now buffer.old) }
+        ensures buffer_is_deciphered { buffer.new ≡ ciphered (λ key size. decipher C.BlockCipher.kind key size tweak.now) (state_of C.BlockCipher.kind C.BlockCipher.held self.now) (obstacle_with C.BlockCipher.kind (state_of C.BlockCipher.kind C.BlockCipher.held self.now) tweak.now buffer.old) buffer.old }
     {
-        let keyed = self.admit_with_tweak(tweak, buffer)?;
-        sectors::decipher(&keyed.cipher, C::Ring::from_bytes(tweak), buffer);
+        self.admit_with_tweak(tweak, buffer)?;
+        sectors::decipher(&self.cipher, C::Ring::from_bytes(tweak), buffer);
         Ok(())
     }
 
     /// Enciphers the sector with this number in place: its tweak is the number modulo 2^n, as a block.
     pub fn encipher_sector(&self, number: u32, buffer: &mut [u8]) -> Result<(), ModeFault>
-        ensures answer { result ≡ answered (obstacle (state_of self.now) buffer.old) }
-        ensures buffer_is_enciphered { buffer.new ≡ ciphered (λ key size. encipher_sector C.BlockCipher.kind key size number) (state_of self.now) (obstacle (state_of self.now) buffer.old) buffer.old }
+        ensures answer { result ≡ answered (obstacle (state_of C.BlockCipher.kind C.BlockCipher.held self.now) buffer.old) }
+        ensures buffer_is_enciphered { buffer.new ≡ ciphered (λ key size. encipher_sector C.BlockCipher.kind key size number) (state_of C.BlockCipher.kind C.BlockCipher.held self.now) (obstacle (state_of C.BlockCipher.kind C.BlockCipher.held self.now) buffer.old) buffer.old }
     {
-        let keyed = self.admit(buffer)?;
+        self.admit(buffer)?;
         let tweak = C::Ring::from_number(u64::from(number));
-        sectors::encipher(&keyed.cipher, tweak, buffer);
+        sectors::encipher(&self.cipher, tweak, buffer);
         Ok(())
     }
 
     /// Deciphers the sector with this number in place: its tweak is the number modulo 2^n, as a block.
     // Stays: as above; what they share is `admit` and `wrap`.
     pub fn decipher_sector(&self, number: u32, buffer: &mut [u8]) -> Result<(), ModeFault>
-        ensures answer { result ≡ answered (obstacle (state_of self.now) buffer.old) }
-        ensures buffer_is_deciphered { buffer.new ≡ ciphered (λ key size. decipher_sector C.BlockCipher.kind key size number) (state_of self.now) (obstacle (state_of self.now) buffer.old) buffer.old }
+        ensures answer { result ≡ answered (obstacle (state_of C.BlockCipher.kind C.BlockCipher.held self.now) buffer.old) }
+        ensures buffer_is_deciphered { buffer.new ≡ ciphered (λ key size. decipher_sector C.BlockCipher.kind key size number) (state_of C.BlockCipher.kind C.BlockCipher.held self.now) (obstacle (state_of C.BlockCipher.kind C.BlockCipher.held self.now) buffer.old) buffer.old }
     {
-        let keyed = self.admit(buffer)?;
+        self.admit(buffer)?;
         let tweak = C::Ring::from_number(u64::from(number));
-        sectors::decipher(&keyed.cipher, tweak, buffer);
+        sectors::decipher(&self.cipher, tweak, buffer);
         Ok(())
     }
 }
 
 impl<C: BlockCipher> WideMode for Heh<C> {
-    ghost use Rattle.heh.specs.State.{state_of, state_fits};
-
     ghost kind = { kind_over C.BlockCipher.kind };
 
-    ghost state = { state_of };
+    ghost state = { λ m. state_of C.BlockCipher.kind C.BlockCipher.held m };
 
-    ghost fitting = { state_fits };
+    ghost fitting = { λ m. held_fits C.BlockCipher.kind (C.BlockCipher.held m.cipher) m.size (C.BlockCipher.fitting m.cipher) (kind_over C.BlockCipher.kind) (λ key n. refl) };
 
     fn key(&mut self, key: &[u8], size: usize) -> Result<(), ModeFault> {
         Heh::key(self, key, size)

@@ -1,4 +1,4 @@
--- Why a mode refuses a call.
+-- What a mode holds, and why it refuses a call.
 use Rattle.std.specs.Prelude.{ℕ, cond, List, length, Some, None, Option, ◌==◌}
 use Rattle.rings.specs.Ring.{RingKind}
 use Rattle.ciphers.specs.Cipher.{CipherKind, fits}
@@ -7,6 +7,10 @@ use Rattle.modes.specs.Mode.{Keyed, obstacle}
 use Rattle.modes.specs.declared.ModeFault.{ModeFault}
 use Rattle.modes.specs.declared.ModeFault.TheVariants.{Key, WrongSize, WrongTweak}
 use Rattle.heh_theory.specs.Heh.{size_fits}
+
+-- a key and a size count where the size fits; elsewhere the mode is blank
+abbrev pub keyed_with : RingKind → List ℕ → ℕ → Option Keyed
+keyed_with r key ℓ = cond (size_fits r ℓ) (Some (record { key = key; size = ℓ })) None
 
 -- why a key and a size are refused, or none
 abbrev pub refusal : CipherKind → List ℕ → ℕ → Option ModeFault

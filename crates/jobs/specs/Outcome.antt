@@ -42,7 +42,7 @@ of_task (Some t) = carried (given (mode_over t.mode (cipher_of t.cipher)) t)
 abbrev pub outcome : List ℕ → Result (List ℕ) Refusal
 outcome bytes = of_task (read bytes)
 
--- the sector that a fixed vector holds, or why there is none
-abbrev pub sector_in : {E : Type 0} → Result (ArrayVec ℕ) E → Result (List ℕ) E
-sector_in (Ok v) = Ok v.items
-sector_in (Err fault) = Err fault
+-- the sector that a fixed vector holds after a call, or why there is none
+abbrev pub put_in : {E : Type 0} → ArrayVec ℕ → Result (Unit {0}) E → Result (List ℕ) E
+put_in v (Ok done) = Ok v.items
+put_in v (Err fault) = Err fault

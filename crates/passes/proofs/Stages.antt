@@ -118,6 +118,12 @@ module _ (r : RingKind) where
 
   -- ---- what undoes each pass
 
+  pub added_back : (v : ℕ) (s : Sector) → added v (added v s) ≡ s
+  added_back v s = λ t. record { blocks = plus_plus v s.blocks t; tail = s.tail }
+
+  pub mapped_back : (f g : ℕ → ℕ) → ((x : ℕ) → x < size r → g (f x) ≡ x) → (s : Sector) → AllBelowBase (size r) s.blocks → mapped g (mapped f s) ≡ s
+  mapped_back f g undo s low = λ t. record { blocks = map_back (size r) f g undo s.blocks low t; tail = s.tail }
+
   pub whitened_back : (β : ℕ) (s : Sector) → whitened r β (whitened r β s) ≡ s
   whitened_back β s = λ t. record { blocks = placewise_back (whitened_at r β) (λ i x. cancel x (times r (power r 2 i) β)) 0 s.blocks t; tail = s.tail }
 

@@ -15,6 +15,9 @@ use std::alloc::{AllocError, Global};
 use volumes::fault::VolumeFault;
 use volumes::volume::Volume;
 
+/// The most bytes that a sector has.
+const LARGEST: usize = 4096;
+
 /// Opens the volume.
 pub fn open<D: SectorDevice, M: WideMode>(volume: &mut Volume<D, M>, key: &[u8]) -> Answer<Vec<u8>>
     ensures call_is_told { result ≡ tells.called (named names.Open (open_answer M.kind (view D.meaning M.state volume.old) key.now)) }
@@ -52,7 +55,7 @@ pub fn step<D: SectorDevice, M: WideMode>(volume: &mut Volume<D, M>, count: u32)
     called(steps(volume, count))
 }
 
-/// Reads a sector.
+/// Reads a sector. Only the bytes of one that is read take memory.
 pub fn read<D: SectorDevice, M: WideMode>(
     heap: Global,
     volume: &mut Volume<D, M>,
@@ -61,9 +64,14 @@ pub fn read<D: SectorDevice, M: WideMode>(
     ensures sector_is_told { IfOk result (λ a. listed vec_items a ≡ read_answer (volume_of M.kind (view D.meaning M.state volume.old)) sector) }
     ensures volume_stays { view D.meaning M.state volume.new ≡ view D.meaning M.state volume.old }
 {
-    let mut bytes = vec![in heap; 0; volume.size() as usize]?;
-    match volume.read(sector, bytes.as_mut_slice()) {
-        Ok(()) => Ok(Answer::Bytes(bytes)),
+    let size = volume.size() as usize;
+    let mut scratch = [0; LARGEST];
+    let buffer = &mut scratch[..size];
+    match volume.read(sector, buffer) {
+        Ok(()) => {
+            let bytes = Vec::from_slice(heap, buffer)?;
+            Ok(Answer::Bytes(bytes))
+        }
         Err(fault) => Ok(faulted(fault)),
     }
 }

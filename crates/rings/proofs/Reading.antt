@@ -33,6 +33,13 @@ last_count bs k =
     ∙ ap (λ (x : ℕ). N * 256 ^ x + number_from_digits 256 (drop k bs)) (length-drop k bs) in
     sym (ap (λ (x : ℕ). x % 256 ^ (length bs - k)) whole ∙ mul-add-mod_self_right N (256 ^ (length bs - k)) (number_from_digits 256 (drop k bs)))
 
+-- the last N bytes, where there are as many
+pub last_chunk_number : (N : ℕ) (bs end : List ℕ) → N ≤ length bs → end ≡ drop (length bs - N) bs → number_from_digits 256 end % 256 ^ N ≡ number_from_digits 256 bs % 256 ^ N
+last_chunk_number N bs end enough is =
+    let long : length bs - (length bs - N) ≡ N = omega (arith, enough) in
+    ap (λ (l : List ℕ). number_from_digits 256 l % 256 ^ N) is
+    ∙ subst (λ (k : ℕ). number_from_digits 256 (drop (length bs - N) bs) % 256 ^ k ≡ number_from_digits 256 bs % 256 ^ k) long (last_count bs (length bs - N))
+
 -- as many of the last bytes as fit
 module _ (N : ℕ) (bs block : List ℕ) (count : ℕ) (least : count ≡ min (length bs) N) (is : block ≡ replicate (N - count) 0 ++ drop (length bs - count) bs) where
   pub block_number : number_from_digits 256 block % 256 ^ N ≡ number_from_digits 256 bs % 256 ^ N

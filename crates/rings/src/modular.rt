@@ -44,6 +44,10 @@ trait Modulus: PrimInt + Unsigned + AsPrimitive<u8> {
 fn last<const N: usize>(bytes: &[u8]) -> [u8; N]
     ensures { number_from_digits 256 result % 256 ^ N ≡ number_from_digits 256 bytes.now % 256 ^ N }
 {
+    // A whole word is read by a load; a copy of a count that is not known calls the C library.
+    if let Some(end) = bytes.last_chunk() {
+        return *end;
+    }
     let mut end = [0; N];
     let count = bytes.len().min(N);
     let place = &mut end[..];
@@ -182,6 +186,14 @@ where
     }
 
     fn from_bytes(bytes: &[u8]) -> T {
+        // So few bytes are read one by one in less time than they are copied to the end of a word.
+        if Self::width() <= 8 && bytes.len() < Self::width() {
+            let mut block = T::from_number(0);
+            for b in bytes {
+                block = block.pushed(*b);
+            }
+            return block;
+        }
         T::of_bytes(bytes)
     }
 }

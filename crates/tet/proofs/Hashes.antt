@@ -1,12 +1,10 @@
 -- The hash key, as the code works it out.
-use Rattle.std.proofs.Common.{◌≡◌, ℕ, ◌/◌, ◌<◌, ◌≤◌, true, cond, leb, Some, None, Option, sym, ap, ◌∙◌, ap₂}
+use Rattle.std.proofs.Common.{◌≡◌, ℕ, ◌/◌, ◌<◌, ◌≤◌, true, leb, None, Option, sym, ap, ◌∙◌, ap₂}
 use Rattle.std.proofs.lemmas.Bool.{and_from, le-leb, cond-true}
 use Rattle.rings.specs.Ring.{RingKind, size, times}
 use Rattle.rings.specs.Sums.{sigma}
 use Rattle.rings.proofs.Total.{alpha_below, times_blocks}
-use Rattle.modes.specs.declared.ModeFault.TheVariants.{WrongSize}
-use Rattle.tet_theory.specs.State.{without_hash}
-use Rattle.tet_theory.specs.Tet.{HashKey, size_fits, hash_with, hash_key}
+use Rattle.tet_theory.specs.Tet.{size_fits, hash_with, hash_key}
 
 -- α times a block
 pub times_alpha : (r : RingKind) (x y : ℕ) → x < size r → y ≡ r.product 2 x → y ≡ times r 2 x
@@ -23,8 +21,3 @@ hash_made r E n v z x y τ σ ι low high small v_is z_is x_is y_is τ_is σ_is 
     let σ_made : σ ≡ sigma r (E (times r 2 (E 0))) (n / r.width) = σ_is ∙ ap₂ (sigma r) τ_made (ap (λ (w : ℕ). n / w) v_is) in
     let ι_made = ι_is ∙ ap r.inverse σ_made in
     (λ t. hash_with r (τ_made t) (σ_made t) (ι_made t)) ∙ sym (cond-true (size_fits r n) _ None (size_fit r n low high))
-
--- why a size that fits gives no hash key
-pub hash_fault : (r : RingKind) (E : ℕ → ℕ) (n : ℕ) (o : Option HashKey) → r.width ≤ n → n ≤ r.longest → o ≡ hash_key r E n
-    → without_hash o ≡ cond (size_fits r n) (without_hash (hash_key r E n)) (Some WrongSize)
-hash_fault r E n o low high is = ap without_hash is ∙ sym (cond-true (size_fits r n) _ (Some WrongSize) (size_fit r n low high))

@@ -6,15 +6,16 @@
 
 #![tactic(auto)]
 
-ghost use Rattle.std.specs.Prelude.{◌≡◌, ℕ, Some, None, IfOk};
+ghost use Rattle.std.specs.Prelude.{◌≡◌, ℕ, Some, None, refl, IfOk};
 ghost use Rattle.std.specs.Result.{result_err};
-ghost use Rattle.std.proofs.Props.{props};
 ghost use Rattle.modes.specs.Faults.{answered};
 ghost use Rattle.modes.specs.Mode.{keyed_after, ciphered};
 ghost use Rattle.tet_theory.specs.State.{refusal, obstacle};
 ghost use Rattle.tet_theory.specs.Tet.{hash_key, encipher, decipher};
+ghost use Rattle.tet_theory.proofs.States.{held_fits};
 ghost use Rattle.tet.specs.Keys.{key_of};
 ghost use Rattle.tet.specs.Kind.{kind_over, sector_tweak};
+ghost use Rattle.tet.specs.State.{tet_state};
 
 use crate::hash::{Hash, hash_key};
 use crate::stages::*;
@@ -30,20 +31,12 @@ mod tweaks;
 /// The longest tweak, in bytes.
 const LONGEST_TWEAK: usize = 4096;
 
-/// TET under a key for one sector size, or blank.
+/// TET with two keyed ciphers and a sector size. It is blank where these have no hash key.
 #[derive(Drop)]
-pub struct Tet<C: BlockCipher> {
-    keyed: Option<Keyed<C>>,
-}
-
-/// Two keyed ciphers and a sector size, with their hash key.
-#[derive(Drop)]
-struct Keyed<C: BlockCipher> {
+pub struct Tet<C> {
     first: C,
     second: C,
     size: usize,
-    hash: Hash<C::Ring>,
-    ghost hash_of_key: { hash_key C.BlockCipher.kind.ring (C.BlockCipher.kind.encipher (C.BlockCipher.held first)) size ≡ Some (key_of C.Ring.BlockRing.value hash) } by { Prim.hlevel props },
 }
 
 /// The tweak of a sector number: the number in 8 bytes, the first the highest.
@@ -54,84 +47,86 @@ fn tweak_of(number: u32) -> [u8; 8]
 }
 
 impl<C: BlockCipher> Tet<C> {
-    ghost use Rattle.tet.specs.State.{tet_state};
-
     /// A blank mode.
     pub fn new() -> Tet<C>
-        ensures mode_is_blank { tet_state result ≡ None }
+        ensures mode_is_blank { tet_state C.BlockCipher.kind C.BlockCipher.held result ≡ None }
     {
-        Tet { keyed: None }
+        Tet {
+            first: C::new(),
+            second: C::new(),
+            size: 0,
+        }
     }
 
     /// Holds the key, K1 then K2, for sectors of `size` bytes, or refuses them and stays as it was.
     pub fn key(&mut self, key: &[u8], size: usize) -> Result<(), ModeFault>
         ensures answer { result ≡ answered (refusal C.BlockCipher.kind key.now size) }
-        ensures pair_is_held { tet_state self.new ≡ keyed_after (refusal C.BlockCipher.kind key.now size) key.now size (tet_state self.old) }
+        ensures pair_is_held { tet_state C.BlockCipher.kind C.BlockCipher.held self.new ≡ keyed_after (refusal C.BlockCipher.kind key.now size) key.now size (tet_state C.BlockCipher.kind C.BlockCipher.held self.old) }
     {
         let half = key.len() / 2;
         let mut first = C::new();
         first.set_key(&key[..half])?;
         let mut second = C::new();
         second.set_key(&key[half..])?;
-        let hash = hash_key(&first, size)?;
-        self.keyed = Some(Keyed {
-            first,
-            second,
-            size,
-            hash,
-        });
+        if size < C::Ring::width() || C::Ring::longest() < size {
+            return Err(ModeFault::WrongSize);
+        }
+        let Some(_) = hash_key(&first, size) else {
+            return Err(ModeFault::NoInverse);
+        };
+        self.first = first;
+        self.second = second;
+        self.size = size;
         Ok(())
     }
 
-    /// The key, for a buffer of its size and a tweak that is not too long.
+    /// The hash key, for a buffer of its size and a tweak that is not too long.
     // Stays: HEH has the same test of its own struct; a trait for both would be longer than the test.
-    fn admit(&self, tweak: &[u8], buffer: &[u8]) -> Result<&Keyed<C>, ModeFault>
-        ensures fault { result_err result ≡ obstacle (tet_state self.now) tweak.now buffer.now }
-        ensures key { IfOk result (λ k. self.now.keyed ≡ Some k.now) }
+    fn admit(&self, tweak: &[u8], buffer: &[u8]) -> Result<Hash<C::Ring>, ModeFault>
+        ensures fault { result_err result ≡ obstacle (tet_state C.BlockCipher.kind C.BlockCipher.held self.now) tweak.now buffer.now }
+        ensures hash { IfOk result (λ h. hash_key C.BlockCipher.kind.ring (C.BlockCipher.kind.encipher (C.BlockCipher.held self.now.first)) self.now.size ≡ Some (key_of C.Ring.BlockRing.value h)) }
     {
-        let keyed = self.keyed.as_ref().ok_or(ModeFault::WrongLength)?;
-        if buffer.len() != keyed.size {
+        let hash = hash_key(&self.first, self.size).ok_or(ModeFault::WrongLength)?;
+        if buffer.len() != self.size {
             return Err(ModeFault::WrongLength);
         }
         if LONGEST_TWEAK < tweak.len() {
             return Err(ModeFault::WrongTweak);
         }
-        Ok(keyed)
+        Ok(hash)
     }
 
     /// Enciphers a sector in place under a tweak of up to 4,096 bytes.
     pub fn encipher_with_tweak(&self, tweak: &[u8], buffer: &mut [u8]) -> Result<(), ModeFault>
-        ensures answer { result ≡ answered (obstacle (tet_state self.now) tweak.now buffer.old) }
-        ensures buffer_is_enciphered { buffer.new ≡ ciphered (λ key size. encipher C.BlockCipher.kind key size tweak.now) (tet_state self.now) (obstacle (tet_state self.now) tweak.now buffer.old) buffer.old }
+        ensures answer { result ≡ answered (obstacle (tet_state C.BlockCipher.kind C.BlockCipher.held self.now) tweak.now buffer.old) }
+        ensures buffer_is_enciphered { buffer.new ≡ ciphered (λ key size. encipher C.BlockCipher.kind key size tweak.now) (tet_state C.BlockCipher.kind C.BlockCipher.held self.now) (obstacle (tet_state C.BlockCipher.kind C.BlockCipher.held self.now) tweak.now buffer.old) buffer.old }
     {
-        let keyed = self.admit(tweak, buffer)?;
-        let beta = tweak_block(&keyed.first, keyed.size, tweak);
-        encipher_sector(&keyed.second, keyed.hash, beta, buffer);
+        let hash = self.admit(tweak, buffer)?;
+        let beta = tweak_block(&self.first, self.size, tweak);
+        encipher_sector(&self.second, hash, beta, buffer);
         Ok(())
     }
 
     /// Deciphers a sector in place under a tweak of up to 4,096 bytes.
     // Stays: the two directions are two calls, with a clause each; what they share is `admit`.
     pub fn decipher_with_tweak(&self, tweak: &[u8], buffer: &mut [u8]) -> Result<(), ModeFault>
-        ensures answer { result ≡ answered (obstacle (tet_state self.now) tweak.now buffer.old) }
-        ensures buffer_is_deciphered { buffer.new ≡ ciphered (λ key size. decipher C.BlockCipher.kind key size tweak.now) (tet_state self.now) (obstacle (tet_state self.now) tweak.now buffer.old) buffer.old }
+        ensures answer { result ≡ answered (obstacle (tet_state C.BlockCipher.kind C.BlockCipher.held self.now) tweak.now buffer.old) }
+        ensures buffer_is_deciphered { buffer.new ≡ ciphered (λ key size. decipher C.BlockCipher.kind key size tweak.now) (tet_state C.BlockCipher.kind C.BlockCipher.held self.now) (obstacle (tet_state C.BlockCipher.kind C.BlockCipher.held self.now) tweak.now buffer.old) buffer.old }
     {
-        let keyed = self.admit(tweak, buffer)?;
-        let beta = tweak_block(&keyed.first, keyed.size, tweak);
-        decipher_sector(&keyed.second, keyed.hash, beta, buffer);
+        let hash = self.admit(tweak, buffer)?;
+        let beta = tweak_block(&self.first, self.size, tweak);
+        decipher_sector(&self.second, hash, beta, buffer);
         Ok(())
     }
 }
 
 // Stays: HEH's lines are alike, and hand on to its own methods: what a trait is for.
 impl<C: BlockCipher> WideMode for Tet<C> {
-    ghost use Rattle.tet.specs.State.{tet_state, state_fits};
-
     ghost kind = { kind_over C.BlockCipher.kind };
 
-    ghost state = { tet_state };
+    ghost state = { λ m. tet_state C.BlockCipher.kind C.BlockCipher.held m };
 
-    ghost fitting = { state_fits };
+    ghost fitting = { λ m. held_fits C.BlockCipher.kind (C.BlockCipher.held m.first) (C.BlockCipher.held m.second) (C.BlockCipher.fitting m.first) (C.BlockCipher.fitting m.second) m.size (kind_over C.BlockCipher.kind) (λ key n. refl) };
 
     fn key(&mut self, key: &[u8], size: usize) -> Result<(), ModeFault> {
         Tet::key(self, key, size)

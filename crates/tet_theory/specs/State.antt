@@ -1,5 +1,5 @@
--- Why a TET refuses a call.
-use Rattle.std.specs.Prelude.{ℕ, cond, List, length, Some, None, Option, ◌==◌, nat_le}
+-- What a TET holds, and why it refuses a call.
+use Rattle.std.specs.Prelude.{ℕ, cond, List, ◌++◌, length, Some, None, Option, ◌==◌, nat_le}
 use Rattle.ciphers.specs.Cipher.{CipherKind}
 use Rattle.ciphers.specs.declared.KeyFault.TheVariants.{WrongLength as WrongKeyLength}
 use Rattle.modes.specs.Mode.{Keyed}
@@ -7,7 +7,14 @@ use Rattle.modes.specs.declared.ModeFault.{ModeFault}
 use Rattle.modes.specs.declared.ModeFault.TheVariants.{WrongLength, Key, WrongSize, NoInverse, WrongTweak}
 use Rattle.tet_theory.specs.Tet.{HashKey, size_fits, hash_key, first_key, key_fits}
 
--- a size whose σ has no inverse is refused
+abbrev pub keyed_with : Option HashKey → List ℕ → ℕ → Option Keyed
+keyed_with None key ℓ = None
+keyed_with (Some h) key ℓ = Some (record { key = key; size = ℓ })
+
+-- two cipher keys and a size are held where their hash key exists
+abbrev pub state_of : CipherKind → List ℕ → List ℕ → ℕ → Option Keyed
+state_of k K1 K2 ℓ = keyed_with (hash_key k.ring (k.encipher K1) ℓ) (K1 ++ K2) ℓ
+
 abbrev pub without_hash : Option HashKey → Option ModeFault
 without_hash None = Some NoInverse
 without_hash (Some h) = None

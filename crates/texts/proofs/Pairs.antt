@@ -1,9 +1,10 @@
 -- Reading pairs of digits as `hex` does.
-use Rattle.std.proofs.Common.{◌≡◌, ℕ, ◌+◌, ◌*◌, ◌%◌, Bool, false, cond, codes, List, [], ◌∷◌, length, ◌⊎◌, inl, inr, Some, None, Ok, Err, Option, Result, refl, sym, ap, ◌∙◌, arith}
+use Rattle.std.proofs.Common.{◌≡◌, ℕ, zero, suc, ◌+◌, ◌*◌, ◌%◌, ◌<◌, Bool, false, cond, codes, List, [], ◌∷◌, length, get_or, ◌⊎◌, inl, inr, Some, None, Ok, Err, Option, Result, refl, sym, ap, ◌∙◌, arith}
 use Rattle.std.specs.Result.{result_ok}
 use Rattle.std.proofs.lemmas.Bool.Decides.{nat_tests}
 use Rattle.hex.specs.Hex.{hex_digit_value, digit_or_error, pair_value, decode_pairs, decode_of, ◌>>=◌}
 use Rattle.hex.specs.declared.error.FromHexError.{FromHexError}
+use Rattle.std.specs.Char.{is_ascii_hexdigit}
 use Rattle.std.specs.Str.{bytes_eq}
 use Rattle.hex.specs.declared.error.FromHexError.TheVariants.{OutOfMemory}
 use Rattle.texts.specs.Hexadecimal.{digit_value, byte_of, in_front, pairs, bytes_of}
@@ -38,6 +39,10 @@ nothing : (x : Option ℕ) → in_front x None ≡ None
 nothing None = refl
 nothing (Some x) = refl
 
+no_low : (x : Option ℕ) → byte_of x None ≡ None
+no_low None = refl
+no_low (Some x) = refl
+
 half_left : (text : List ℕ) → length text % 2 ≡ 1 → pairs text ≡ None
 unfolding pairs
 half_left [] h = absurd (omega arith)
@@ -57,3 +62,19 @@ undashed text e = ap (λ (t : Bool). cond t (Some []) (pairs text)) e ∙ sym (d
 pub refused : (text : List ℕ) (fault : FromHexError) → bytes_eq text (codes "-") ≡ false → (fault ≡ OutOfMemory) ⊎ (decode_of text ≡ Err fault) → (fault ≡ OutOfMemory → ⊥) → bytes_of text ≡ None
 refused text fault e (inl memory) other = absurd (other memory)
 refused text fault e (inr wrong) other = undashed text e ∙ ap result_ok wrong
+
+-- where a byte is no digit, the pairs read as nothing
+stray_byte : (text : List ℕ) (i : ℕ) → i < length text → digit_value (get_or text i 0) ≡ None → pairs text ≡ None
+unfolding pairs
+stray_byte [] i h e = absurd (omega arith)
+stray_byte (a ∷ []) i h e = refl
+stray_byte (a ∷ b ∷ cs) zero h e = ap (λ o. in_front (byte_of o (digit_value b)) (pairs cs)) e
+stray_byte (a ∷ b ∷ cs) (suc zero) h e = ap (λ o. in_front (byte_of (digit_value a) o) (pairs cs)) e ∙ ap (λ o. in_front o (pairs cs)) (no_low (digit_value a))
+stray_byte (a ∷ b ∷ cs) (suc (suc i)) h e =
+    ap (in_front (byte_of (digit_value a) (digit_value b))) (stray_byte cs i (omega arith) e) ∙ nothing (byte_of (digit_value a) (digit_value b))
+
+no_digit : (c : ℕ) → is_ascii_hexdigit c ≡ false → digit_value c ≡ None
+no_digit c e = grind (arith, nat_tests, e)
+
+pub stray : (text : List ℕ) (i : ℕ) → i < length text → is_ascii_hexdigit (get_or text i 0) ≡ false → pairs text ≡ None
+stray text i h e = stray_byte text i h (no_digit (get_or text i 0) e)

@@ -1,17 +1,32 @@
-ghost use Rattle.std.specs.Prelude.{◌≡◌, IfOk, vec_items, Some};
+ghost use Rattle.std.specs.Prelude.{◌≡◌, ◌<◌, false, [], ◌∷◌, IfOk, vec_items, Some, None};
 ghost use Rattle.std.specs.Option.{option_map};
-ghost use Rattle.texts.specs.Hexadecimal.{bytes_of, written};
+ghost use Rattle.texts.specs.Hexadecimal.{bytes_of, digit_of, pairs, written};
 
 use hex::FromHexError;
 use std::alloc::{AllocError, Global};
 use std::fmt;
 
-/// The bytes that a word stands for.
+/// Is each byte of a word a hexadecimal digit?
+fn is_hexadecimal(word: &[u8]) -> bool
+    ensures { result ≡ false → pairs word.now ≡ None }
+{
+    for c in word {
+        if !c.is_ascii_hexdigit() {
+            return false;
+        }
+    }
+    true
+}
+
+/// The bytes that a word stands for. A word that stands for none takes no memory.
 pub fn bytes(heap: Global, word: &[u8]) -> Result<Option<Vec<u8>>, AllocError>
     ensures { IfOk result (λ o. option_map vec_items o ≡ bytes_of word.now) }
 {
     if word == b"-".as_slice() {
         return Ok(Some(Vec::new(heap)));
+    }
+    if !is_hexadecimal(word) {
+        return Ok(None);
     }
     match hex::decode(heap, word) {
         Ok(bytes) => Ok(Some(bytes)),
@@ -20,6 +35,31 @@ pub fn bytes(heap: Global, word: &[u8]) -> Result<Option<Vec<u8>>, AllocError>
             FromHexError::OutOfMemory => Err(AllocError),
             _ => Ok(None),
         },
+    }
+}
+
+/// A digit of a value below 16.
+fn digit(value: u8) -> &'static str
+    requires { value < 16 }
+    ensures { result.now ≡ digit_of value ∷ [] }
+{
+    match value {
+        0 => "0",
+        1 => "1",
+        2 => "2",
+        3 => "3",
+        4 => "4",
+        5 => "5",
+        6 => "6",
+        7 => "7",
+        8 => "8",
+        9 => "9",
+        10 => "a",
+        11 => "b",
+        12 => "c",
+        13 => "d",
+        14 => "e",
+        _ => "f",
     }
 }
 
@@ -36,7 +76,8 @@ impl fmt::Display for Written<'_> {
             return write!(f, "-");
         }
         for &byte in bytes {
-            write!(f, "{byte:02x}")?;
+            f.write_str(digit(byte / 16))?;
+            f.write_str(digit(byte % 16))?;
         }
         Ok(())
     }

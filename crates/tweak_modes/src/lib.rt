@@ -46,7 +46,7 @@ pub trait TweakMode: Drop {
 impl<C: BlockCipher> TweakMode for Tet<C> {
     ghost kind = { tet_over C.BlockCipher.kind };
 
-    ghost state = { tet_state };
+    ghost state = { λ m. tet_state C.BlockCipher.kind C.BlockCipher.held m };
 
     fn blank() -> Tet<C> {
         Tet::new()
@@ -68,7 +68,7 @@ impl<C: BlockCipher> TweakMode for Tet<C> {
 impl<C: BlockCipher> TweakMode for Heh<C> {
     ghost kind = { heh_over C.BlockCipher.kind };
 
-    ghost state = { heh_state };
+    ghost state = { λ m. heh_state C.BlockCipher.kind C.BlockCipher.held m };
 
     fn blank() -> Heh<C> {
         Heh::new()

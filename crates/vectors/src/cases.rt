@@ -53,7 +53,10 @@ pub fn job(heap: Global, words: &[u8]) -> io::Result<bool> {
     let (place, rest) = cut_word(words);
     let (record, rest) = cut_word(rest);
     let (answer, _) = cut_word(rest);
-    let (Some(place), Some(record)) = (number(place), bytes(heap, record)?) else {
+    let Some(place) = number(place) else {
+        return Ok(false);
+    };
+    let Some(record) = bytes(heap, record)? else {
         return Ok(false);
     };
     let answer = bytes(heap, answer)?;

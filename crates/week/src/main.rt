@@ -94,9 +94,10 @@ fn day<D: SectorDevice, M: WideMode>(
     rt: &impl Print,
     name: &str,
     volume: &mut Volume<D, M>,
-    mut script: Vec<Entry>,
+    script: Result<Vec<Entry>, AllocError>,
 ) -> io::Result<()> {
     println!(rt; "{name}")?;
+    let mut script = script?;
     perform(volume, script.as_mut_slice());
     for entry in script.iter() {
         show::entry(rt, entry)?;
@@ -110,26 +111,26 @@ fn week<D: SectorDevice + Drop>(rt: &impl Print, heap: Global, device: D) -> io:
         rt,
         "Monday, the module gets its key",
         &mut volume,
-        monday(heap)?,
+        monday(heap),
     )?;
-    day(rt, "Tuesday, it is used", &mut volume, tuesday(heap)?)?;
+    day(rt, "Tuesday, it is used", &mut volume, tuesday(heap))?;
     day(
         rt,
         "Wednesday, its key is to be changed",
         &mut volume,
-        wednesday(heap)?,
+        wednesday(heap),
     )?;
     day(
         rt,
         "Thursday, it is used all the same",
         &mut volume,
-        thursday(heap)?,
+        thursday(heap),
     )?;
     day(
         rt,
         "Friday, the change is finished",
         &mut volume,
-        friday(heap)?,
+        friday(heap),
     )
 }
 

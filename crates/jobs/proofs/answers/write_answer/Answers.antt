@@ -4,7 +4,7 @@ use Rattle.jobs.proofs.answers.write_answer.Goals as goal
 
 pub returns-in-Ok-clause-place : goal.returns-in-Ok-clause-place
 returns-in-Ok-clause-place c =
-    let bs = c.in-Ok.sector.items in
+    let bs = c.args.sector.now.items in
     let n = length bs in
     let room : 3 ≤ length c.args.place.now = omega arith in
     let high : n / 256 % 256 ≡ n / 256 = omega arith in

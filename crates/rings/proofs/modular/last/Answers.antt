@@ -2,8 +2,11 @@ use Rattle.std.proofs.Common.{◌≡◌, ℕ, ◌-◌, List, ◌++◌, length, d
 use lib.ListN.{length-replicate}
 use borrow.Rule.Slice.PartMut.{put_mid}
 use Rattle.std.proofs.lemmas.List.{take_rest}
-use Rattle.rings.proofs.Reading.{copied, block_number}
+use Rattle.rings.proofs.Reading.{copied, block_number, last_chunk_number}
 use Rattle.rings.proofs.modular.last.Goals as goal
+
+pub returns-in-Some : goal.returns-in-Some
+returns-in-Some g c = last_chunk_number g.row.N c.args.bytes.now c.in-Some.end.now c.in-Some.ensures.cases.0 c.in-Some.ensures.cases.1.same
 
 pub returns : goal.returns
 returns g c =
