@@ -98,7 +98,7 @@ fn deciphers<D: SectorDevice, M: WideMode>(
 }
 
 /// How many sectors of a device a mode deciphers to their last version.
-// Stays: as `count_right`, with another test; it is generic, since no proof is made of a closure that captures a `Tet`.
+// Stays: as `count_right`, with another test.
 fn count_deciphered<D: SectorDevice, M: WideMode>(device: &mut D, mode: &M, mark: u32) -> usize {
     (0..COUNT)
         .filter(|sector| deciphers(device, mode, *sector, last_version(*sector, mark)))

@@ -1,5 +1,5 @@
 -- Reading pairs of digits as `hex` does.
-use Rattle.std.proofs.Common.{◌≡◌, ℕ, zero, suc, ◌+◌, ◌*◌, ◌%◌, ◌<◌, Bool, false, cond, codes, List, [], ◌∷◌, length, get_or, ◌⊎◌, inl, inr, Some, None, Ok, Err, Option, Result, refl, sym, ap, ◌∙◌, arith}
+use Rattle.std.proofs.Common.{◌≡◌, ℕ, zero, suc, ◌+◌, ◌*◌, ◌%◌, ◌<◌, Bool, true, false, ◌&&◌, cond, codes, List, [], ◌∷◌, length, get_or, ◌⊎◌, inl, inr, Some, None, Ok, Err, Option, Result, refl, sym, ap, ◌∙◌, arith}
 use Rattle.std.specs.Result.{result_ok}
 use Rattle.std.proofs.lemmas.Bool.Decides.{nat_tests}
 use Rattle.hex.specs.Hex.{hex_digit_value, digit_or_error, pair_value, decode_pairs, decode_of, ◌>>=◌}
@@ -78,3 +78,8 @@ no_digit c e = grind (arith, nat_tests, e)
 
 pub stray : (text : List ℕ) (i : ℕ) → i < length text → is_ascii_hexdigit (get_or text i 0) ≡ false → pairs text ≡ None
 stray text i h e = stray_byte text i h (no_digit (get_or text i 0) e)
+
+-- of two tests, whichever fails
+pub either : (a h : Bool) (text : List ℕ) → (a ≡ false → pairs text ≡ None) → (h ≡ false → pairs text ≡ None) → (a && h) ≡ false → pairs text ≡ None
+either false h text p q e = p refl
+either true h text p q e = q e

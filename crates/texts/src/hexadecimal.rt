@@ -10,12 +10,12 @@ use std::fmt;
 fn is_hexadecimal(word: &[u8]) -> bool
     ensures { result ≡ false → pairs word.now ≡ None }
 {
+    // Each byte is looked at, whatever came before, so that many are looked at at once.
+    let mut all = true;
     for c in word {
-        if !c.is_ascii_hexdigit() {
-            return false;
-        }
+        all = all & c.is_ascii_hexdigit();
     }
-    true
+    all
 }
 
 /// The bytes that a word stands for. A word that stands for none takes no memory.
