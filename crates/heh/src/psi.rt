@@ -18,6 +18,8 @@ fn add_offsets<R: BlockRing>(y: R, beta: R, blocks: &mut [u8])
 }
 
 /// Y = X_m + H(τ; X_1..X_(m-1)); Z_i = X_i + Y + α^i·β for i < m, and Z_m = Y + β.
+// Inlined, it knows the length of the last block, which is then read and written as a word.
+#[inline(always)]
 pub(crate) fn forward<R: BlockRing>(tau: R, beta: R, front: &mut [u8], last: &mut [u8])
     ensures { record { front = front.new; last = last.new } ≡ psi R.ring (R.value tau) (R.value beta) (record { front = front.old; last = last.old }) }
 {
@@ -28,6 +30,7 @@ pub(crate) fn forward<R: BlockRing>(tau: R, beta: R, front: &mut [u8], last: &mu
 
 /// Y = Z_m + β; X_i = Z_i + Y + α^i·β for i < m, and X_m = Y + H(τ; X_1..X_(m-1)).
 // Stays: Ψ and its inverse are two formulas; what they share is `add_offsets`.
+#[inline(always)]
 pub(crate) fn back<R: BlockRing>(tau: R, beta: R, front: &mut [u8], last: &mut [u8])
     ensures { record { front = front.new; last = last.new } ≡ psi_back R.ring (R.value tau) (R.value beta) (record { front = front.old; last = last.old }) }
 {

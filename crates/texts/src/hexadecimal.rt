@@ -19,6 +19,7 @@ fn is_hexadecimal(word: &[u8]) -> bool
 }
 
 /// The bytes that a word stands for. A word that stands for none takes no memory.
+#[tactic(auto, using(crate::proofs::Pairs::undashed, crate::proofs::Pairs::refused))]
 pub fn bytes(heap: Global, word: &[u8]) -> Result<Option<Vec<u8>>, AllocError>
     ensures { IfOk result (λ o. option_map vec_items o ≡ bytes_of word.now) }
 {

@@ -46,6 +46,15 @@ less_is m k x y cmp e ex ey =
     tested : (m k : ℕ) → is_lt (nat_cmp m k) ≡ nat_lt m k
     tested m k = grind arith
 
+-- the lowest bit is one of the word's, so words that are the same have the same
+low : (w : Width) (b : ℕ) → b % 2 ^ bit_len w % 2 ≡ b % 2
+low w b =
+    let high : bit_len w - 1 + 1 ≡ bit_len w = omega (arith, bits_some w) in
+    subst (λ (k : ℕ). b % 2 ^ k % 2 ≡ b % 2) high (mod-mod-pow b (bit_len w - 1) 1)
+
+pub same_low : (w : Width) (a b : ℕ) → a % 2 ^ bit_len w ≡ b % 2 ^ bit_len w → a % 2 ≡ b % 2
+same_low w a b e = sym (low w a) ∙ ap (λ (x : ℕ). x % 2) e ∙ low w b
+
 -- what is made of bits of the width has them
 module _ {A : Type 0} (w : Width) (bits_of : A → ℕ) (of_bits : ℕ → A) (trip : (k : ℕ) → k < 2 ^ bit_len w → bits_of (of_bits k) ≡ k) where
   pub made : (r : A) (k : ℕ) → r ≡ of_bits k → k < 2 ^ bit_len w → bits_of r ≡ k
@@ -79,12 +88,11 @@ module _ {A : Type 0} (w : Width) (bits_of : A → ℕ) (of_bits : ℕ → A) (t
       → bits_of r % 2 ^ bit_len w ≡ (b % 2 ^ bit_len w % 2) * (a % 2 ^ bit_len w)
   spread r a b m x em ex e =
       let N : ℕ = 2 ^ bit_len w in
-      let high : bit_len w - 1 + 1 ≡ bit_len w = omega (arith, bits_some w) in
-      let low : b % N % 2 ≡ m = subst (λ (k : ℕ). b % 2 ^ k % 2 ≡ b % 2) high (mod-mod-pow b (bit_len w - 1) 1) ∙ sym em in
+      let lowest_is : b % N % 2 ≡ m = low w b ∙ sym em in
       let bit : m < 2 = omega (arith, em, mod-lt b (zero-lt-suc 1)) in
       let is : bit_and x a ≡ m * (a % N) = ap (λ (y : ℕ). bit_and y a) ex ∙ none_or_all m a bit in
       let fits : m * (a % N) < N = bit_below m bit (mod-lt a (pow_pos (bit_len w))) in
-      ap (λ (y : ℕ). y % N) (made r (m * (a % N)) (e ∙ ap of_bits is) fits) ∙ mod-eq_of_lt fits ∙ ap (λ (y : ℕ). y * (a % N)) (sym low)
+      ap (λ (y : ℕ). y % N) (made r (m * (a % N)) (e ∙ ap of_bits is) fits) ∙ mod-eq_of_lt fits ∙ ap (λ (y : ℕ). y * (a % N)) (sym lowest_is)
     where
       none_or_all : (m a : ℕ) → m < 2 → bit_and (m * (2 ^ bit_len w - 1)) a ≡ m * (a % 2 ^ bit_len w)
       none_or_all zero a h = ap (λ (y : ℕ). bit_and y a) (zero-mul (2 ^ bit_len w - 1)) ∙ sym (zero-mul (a % 2 ^ bit_len w))

@@ -1,4 +1,4 @@
-use Rattle.std.proofs.Common.{◌≡◌, ℕ, ◌<◌, ◌≢◌, true, false, ◌&&◌, List, length, get_or, Some, None, Option, MatchOption, MatchResult, ap, ne_eqb}
+use Rattle.std.proofs.Common.{◌≡◌, ℕ, ◌<◌, ◌≢◌, true, false, ◌&&◌, List, length, get_or, Some, None, Option, MatchOption, MatchResult, ap, subst, ne_eqb, rules}
 use Rattle.std.specs.Array.{IsWholeChunk}
 use Rattle.std.specs.Option.{ok_or}
 use denote.Ref.{Bor}
@@ -14,4 +14,8 @@ module _ (key : List ℕ) (bytes : (i : ℕ) → get_or key i 0 < 256) where
   told (Some k) is = (row_array 16 key is.long bytes, is.same)
 
 pub returns : goal.returns
-returns c = rw c.ok_or.ensures.value (told c.args.key.now (λ i. (c.type_inv.key i).fits) c.as_array.result c.as_array.ensures.cases)
+returns c =
+    let key = c.args.key.now in
+    let cases : MatchOption c.as_array.result (length key ≢ 16) (λ k. IsWholeChunk key k.now 16) =
+    subst (λ (l : List ℕ). MatchOption c.as_array.result (length l ≢ 16) (λ k. IsWholeChunk l k.now 16)) (search rules) c.as_array.ensures.cases in
+    rw c.ok_or.ensures.value (told key (λ i. (c.type_inv.key i).fits) c.as_array.result cases)

@@ -1,4 +1,5 @@
-use Rattle.std.proofs.Common.{ℕ, ◌+◌, ◌*◌, ◌%◌, List, get_or, take, sym, ap, ◌∙◌, take_all}
+use Rattle.std.proofs.Common.{ℕ, ◌%◌, List, get_or, take, sym, ap, ◌∙◌, take_all, arith}
+use Rattle.std.proofs.lemmas.Grind.{common_steps}
 use native.Mathlib.Nat.{zero-mod}
 use Rattle.std.specs.Int.Digits.{number_from_digits}
 use Rattle.std.proofs.lemmas.Int.Digits.{number_more}
@@ -15,8 +16,7 @@ loop-b-preserved g c =
     let bytes = c.args.bytes.now in
     let i = c.loop-b.b-index in
     let b = get_or bytes i 0 in
-    c.pushed-block.ensures ∙ ap (λ (x : ℕ). (x * 256 + b) % n) c.loop-b.invariant ∙ mod_shift (number_from_digits 256 (take i bytes)) b n
-    ∙ ap (λ (x : ℕ). x % n) (sym (number_more 256 bytes i c.loop-b-test.true))
+    grind (arith, common_steps, mod_shift (number_from_digits 256 (take i bytes)) b n, number_more 256 bytes i c.loop-b-test.true)
 
 pub returns : goal.returns
 returns g c = c.loop-b.invariant ∙ ap (λ (l : List ℕ). number_from_digits 256 l % size g.Self.BlockRing.ring) (take_all _ _ c.loop-b-test.false)

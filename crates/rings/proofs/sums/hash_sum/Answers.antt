@@ -1,5 +1,4 @@
 use Rattle.std.proofs.Common.{◌≡◌, ℕ, Bor, List, ◌%◌, ◌<◌, ◌∷◌, [], map, sym, ap, ◌∙◌, subst}
-use lib.Bits.{bit_xor}
 use Rattle.std.specs.Int.Digits.{number_from_digits, AllBelowBase}
 use Rattle.std.specs.Slice.Iter.{chunks_exact_rest, chunks_exact_size}
 use Rattle.rings.specs.Blocks.{blocks}
@@ -8,23 +7,27 @@ use Rattle.std.proofs.lemmas.List.{map-append}
 use Rattle.rings.specs.Ring.{size}
 use Rattle.rings.specs.Sums.{hash_sum}
 use Rattle.rings.proofs.Chunks.{chunked}
-use Rattle.rings.proofs.Powers.{hash_sum_none, hash_sum_turns}
+use Rattle.rings.proofs.Powers.{hash_sum_none, turn_multiplied, product_over}
 use Rattle.rings.proofs.Total.{rest_below}
 use Rattle.rings.proofs.sums.hash_sum.Goals as goal
 
 pub loop-block-init : goal.loop-block-init
-loop-block-init g c = c.zero-sum.ensures ∙ sym (hash_sum_none g.R.BlockRing.ring (g.R.BlockRing.value c.args.tau))
+loop-block-init g c = cc (hash_sum_none g.R.BlockRing.ring (g.R.BlockRing.value c.args.tau))
 
+-- by the facts of the calls, whether a turn adds first or multiplies first
 pub loop-block-preserved : goal.loop-block-preserved
 loop-block-preserved g c =
     let m = g.R.BlockRing in
     let τ = m.value c.args.tau in
-    let sum = m.value c.loop-block.sum in
+    let small = g.met.R.BlockRing.below in
     let read = λ (b : Bor (List ℕ)). number_from_digits 256 b.now % size m.ring in
-    hash_sum_turns m.ring τ sum (read c.in-Some.block) (m.value c.multiply-sum.result) (map read c.loop-block.yielded)
-    (g.met.R.BlockRing.below c.args.tau) (rest_below m.ring (number_from_digits 256 c.in-Some.block.now)) c.loop-block.invariant
-    (c.multiply-sum.ensures ∙ ap (λ (x : ℕ). m.ring.product x τ) (c.add.ensures ∙ ap (bit_xor sum) c.from_bytes.ensures))
-    ∙ ap (hash_sum m.ring τ) (sym (map-append read c.loop-block.yielded (c.in-Some.block ∷ [])))
+    let b = read c.in-Some.block in
+    let fits = rest_below m.ring (number_from_digits 256 c.in-Some.block.now) in
+    cc (
+      map-append read c.loop-block.yielded (c.in-Some.block ∷ []),
+      turn_multiplied m.ring τ (small c.args.tau) (map read c.loop-block.yielded) b fits,
+      product_over m.ring (m.value c.loop-block.sum) b τ (small c.loop-block.sum) fits (small c.args.tau),
+    )
 
 pub returns : goal.returns
 returns g c =

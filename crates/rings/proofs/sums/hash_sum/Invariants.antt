@@ -7,4 +7,4 @@ use Rattle.rings.proofs.sums.hash_sum.Given as goal
 abbrev pub invariant-loop-block : goal.invariant-loop-block
 invariant-loop-block g l =
     let m = g.R.BlockRing in
-    m.value l.sum ≡ hash_sum m.ring (m.value l.tau) (map (λ b. number_from_digits 256 b.now % size m.ring) l.yielded)
+    m.value l.sum ≡ hash_sum m.ring (m.value l.fn.tau) (map (λ b. number_from_digits 256 b.now % size m.ring) l.yielded)

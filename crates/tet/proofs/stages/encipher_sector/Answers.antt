@@ -1,6 +1,8 @@
-use Rattle.std.proofs.Common.{ℕ, ◌<◌, get_or, subst, rules}
+use Rattle.std.proofs.Common.{ℕ, ◌<◌, get_or, subst, ap, ◌∙◌, rules}
 use Rattle.std.proofs.ByRecursion.{All-from_get_or}
 use Rattle.rings.specs.Ring.{size}
+use Rattle.passes.specs.Passes.{placewise, mapped}
+use Rattle.passes.specs.Sector.{rowwise}
 use Rattle.tet.specs.Keys.{key_of}
 use Rattle.tet.proofs.Steps.{passed}
 use Rattle.tet_theory.specs.Tet.{blended}
@@ -8,6 +10,7 @@ use Rattle.tet_theory.proofs.Blends.{blended_sound}
 use Rattle.tet.proofs.stages.encipher_sector.Goals as goal
 
 pub returns : goal.returns
+unfolding placewise
 returns g c =
     let m = g.C.Ring.BlockRing in
     let r = m.ring in
@@ -22,4 +25,4 @@ returns g c =
     let h = key_of m.value c.args.hash in
     passed r f low (m.value c.args.beta) (blended r h) (λ m t short. blended_sound r m t short h)
     bs c.blend.new.sector c.whiten.new.sector c.encipher_each.new.sector c.crypt_tail.new.sector c.whiten-2.new.sector c.blend-2.new.sector
-    under c.blend.ensures c.whiten.ensures.sector_is_whitened c.encipher_each.ensures.blocks_are_enciphered (c.crypt_tail.ensures f (λ x y h. search rules)) c.whiten-2.ensures.sector_is_whitened c.blend-2.ensures
+    under c.blend.ensures c.whiten.ensures.sector_is_whitened (c.encipher_each.ensures.blocks_are_enciphered ∙ ap (rowwise r.width (mapped f)) (search rules)) (c.crypt_tail.ensures f (λ x y h. search rules)) c.whiten-2.ensures.sector_is_whitened c.blend-2.ensures

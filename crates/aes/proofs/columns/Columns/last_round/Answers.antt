@@ -1,4 +1,4 @@
-use Rattle.std.proofs.Common.{◌≡◌, slice_index, rules, ap, ◌∙◌}
+use Rattle.std.proofs.Common.{slice_index, rules, ap, ◌∙◌}
 use Rattle.aes.specs.Aes.{add_round_key}
 use Rattle.aes.specs.Columns.{substituted, state}
 use Rattle.aes.proofs.Rounds.{each, shifted}
@@ -9,5 +9,5 @@ pub returns : goal.returns
 returns c =
     let table = c.substitution-table.result.now in
     let s = state c.args.self in
-    let made : state c.of_each.result ≡ each (substituted (slice_index table)) s = same_state _ _ (search rules) (search rules) (search rules) (search rules) in
-    c.add_round_key.ensures ∙ ap (add_round_key c.args.key.now 0) (made ∙ shifted table s c.substitution-table.ensures)
+    c.add_round_key.ensures ∙ ap (add_round_key c.args.key.now 0)
+    (same_state _ (each (substituted (slice_index table)) s) (search rules) (search rules) (search rules) (search rules) ∙ shifted table s c.substitution-table.ensures)

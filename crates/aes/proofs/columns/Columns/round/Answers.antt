@@ -1,4 +1,4 @@
-use Rattle.std.proofs.Common.{◌≡◌, slice_index, rules, ap, ◌∙◌}
+use Rattle.std.proofs.Common.{slice_index, rules, ap, ◌∙◌}
 use Rattle.aes.specs.Aes.{add_round_key}
 use Rattle.aes.specs.Columns.{mixed, state}
 use Rattle.aes.proofs.Rounds.{each, mixed_shifted}
@@ -9,5 +9,5 @@ pub returns : goal.returns
 returns c =
     let table = c.round-table.result.now in
     let s = state c.args.self in
-    let made : state c.of_each.result ≡ each (mixed (slice_index table)) s = same_state _ _ (search rules) (search rules) (search rules) (search rules) in
-    c.add_round_key.ensures ∙ ap (add_round_key c.args.key.now 0) (made ∙ mixed_shifted table s c.round-table.ensures)
+    c.add_round_key.ensures ∙ ap (add_round_key c.args.key.now 0)
+    (same_state _ (each (mixed (slice_index table)) s) (search rules) (search rules) (search rules) (search rules) ∙ mixed_shifted table s c.round-table.ensures)

@@ -1,4 +1,4 @@
-use Rattle.std.proofs.Common.{ℕ, ◌+◌, ◌*◌, ◌%◌, List, get_or, take, sym, ap, ◌∙◌, take_all}
+use Rattle.std.proofs.Common.{ℕ, ◌%◌, List, get_or, take, ap, ◌∙◌, take_all, arith}
 use Rattle.std.specs.Int.Digits.{number_from_digits}
 use Rattle.std.proofs.lemmas.Int.Digits.{number_more}
 use Rattle.rings.specs.Ring.{size}
@@ -14,8 +14,7 @@ loop-b-preserved g c =
     let bytes = c.args.bytes.now in
     let i = c.loop-b.b-index in
     let b = get_or bytes i 0 in
-    c.pushed-block.ensures ∙ ap (λ (x : ℕ). (x * 256 + b) % n) c.loop-b.invariant ∙ mod_shift (number_from_digits 256 (take i bytes)) b n
-    ∙ ap (λ (x : ℕ). x % n) (sym (number_more 256 bytes i c.loop-b-test.true))
+    grind (arith, mod_shift (number_from_digits 256 (take i bytes)) b n, number_more 256 bytes i c.loop-b-test.true)
 
 pub returns-then-bytes-width : goal.returns-then-bytes-width
 returns-then-bytes-width g c = c.loop-b.invariant ∙ ap (λ (l : List ℕ). number_from_digits 256 l % size g.T.Modulus.ring) (take_all _ _ c.loop-b-test.false)

@@ -1,4 +1,4 @@
-use Rattle.std.proofs.Common.{ap₂, ◌∙◌}
+use Rattle.std.proofs.Common.{ap₂, ◌∙◌, arith}
 use Rattle.std.specs.Prelude.{nat_lt}
 use Rattle.words.proofs.Bounds.{natural, less_is}
 use Rattle.words.proofs.machine.AnyWord.is_below.Goals as goal
@@ -14,4 +14,4 @@ returns g c =
     ∙ less_is (b.bits_of x) (b.bits_of y) (value x) (value y) (g.T.PartialOrd.partial_cmp x y) (g.met.T.Number.order_law x y g.met.T.Integral.exact_law)
     (natural (value x) (b.bits_of x) (g.met.T.Unsigned.unsigned_law x) (laws.bits_of_natural_law x))
     (natural (value y) (b.bits_of y) (g.met.T.Unsigned.unsigned_law y) (laws.bits_of_natural_law y))
-    ∙ ap₂ nat_lt c.whole.ensures c.whole-2.ensures
+    ∙ ap₂ nat_lt (omega arith) (omega arith)

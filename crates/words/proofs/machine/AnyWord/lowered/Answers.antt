@@ -1,4 +1,4 @@
-use Rattle.std.proofs.Common.{ℕ, ◌≤◌, ◌%◌, ◌^◌, ap, ◌∙◌, arith}
+use Rattle.std.proofs.Common.{◌≡◌, ◌≤◌, ◌^◌, arith}
 use native.Mathlib.Nat.{zero-mod}
 use Rattle.num_traits.specs.Laws.{bit_len}
 use Rattle.words.proofs.Widths.{lowered_out}
@@ -8,6 +8,6 @@ pub returns-else-by-bits : goal.returns-else-by-bits
 returns-else-by-bits g c =
     let b = g.T.FixedWidth in
     let n = bit_len b.width in
-    let none = ap b.bits_of c.zero.ensures ∙ g.met.T.FixedWidth.bits_of_natural_law g.T.Zero.zero 0 (g.met.T.Zero.zero_law g.met.T.Integral.exact_law) in
-    let past : n ≤ c.args.by = omega (arith, c.if-by-bits.false, c.bits.ensures) in
-    ap (λ (x : ℕ). x % 2 ^ n) none ∙ zero-mod (2 ^ n) ∙ lowered_out n (b.bits_of c.args.self) c.args.by past
+    let none : b.bits_of g.T.Zero.zero ≡ 0 = g.met.T.FixedWidth.bits_of_natural_law g.T.Zero.zero 0 (g.met.T.Zero.zero_law g.met.T.Integral.exact_law) in
+    let past : n ≤ c.args.by = omega arith in
+    cc (none, zero-mod (2 ^ n), lowered_out n (b.bits_of c.args.self) c.args.by past)

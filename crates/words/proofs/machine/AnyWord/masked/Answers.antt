@@ -1,6 +1,6 @@
-use Rattle.std.proofs.Common.{◌≡◌, ℕ, ◌*◌, ◌%◌, ◌<◌, ap, ap₂, sym, subst, ◌∙◌, mod-lt, zero-lt-suc}
+use Rattle.std.proofs.Common.{◌≡◌, ℕ, ◌*◌, ◌%◌, ◌<◌, ap, ap₂, sym, subst, ◌∙◌, mod-lt, zero-lt-suc, arith}
 use Rattle.std.specs.Prelude.{◌*ℤ◌, pos}
-use Rattle.words.proofs.Bounds.{natural, lowest, scaled, spread}
+use Rattle.words.proofs.Bounds.{natural, lowest, same_low, scaled, spread}
 use Rattle.words.proofs.machine.AnyWord.masked.Given as given
 use Rattle.words.proofs.machine.AnyWord.masked.Goals as goal
 use Rattle.words.proofs.machine.AnyWord.masked.Goals.{After-ones}
@@ -14,8 +14,9 @@ module _ (g : given.Over) where
     bit_is =
         let b = g.T.FixedWidth in
         let single = ap b.bits_of c.one.ensures ∙ g.met.T.FixedWidth.bits_of_natural_law g.T.One.one 1 (g.met.T.One.one_law g.met.T.Integral.exact_law) in
-        lowest b.width b.bits_of b.of_bits b.bits_round_trip_law c.bitand.result (b.bits_of c.args.bit) (b.bits_of c.one.result) single
+        lowest b.width b.bits_of b.of_bits b.bits_round_trip_law c.bitand.result _ (b.bits_of c.one.result) single
         (g.met.T.PrimInt.bitand_law _ _ _ c.bitand.ensures)
+        ∙ same_low b.width _ (b.bits_of c.args.bit) (omega arith)
 
     fits : g.T.Number.fits (g.T.Number.value c.bitand.result *ℤ g.T.Number.value c.ones.result)
     fits =
