@@ -1,5 +1,5 @@
 -- Which command a line stands for.
-use Rattle.std.specs.Prelude.{◌≡◌, ◌⊎◌, ℕ, cond, List, length, Some, None, Ok, Err, Option, Result, ◌==◌}
+use Rattle.std.specs.Prelude.{◌≡◌, ◌⊎◌, IsOk, ℕ, cond, List, length, Some, None, Ok, Err, Option, Result, ◌==◌}
 use Rattle.commands.specs.declared.command.Command.{Command}
 use Rattle.commands.specs.declared.command.Command.TheVariants.{Image, Load, Fault, Volume, Open, Read, Write, Begin, Step, Report, Show, Save, Help}
 use Rattle.commands.specs.declared.command.Wrong.{Wrong}
@@ -36,9 +36,9 @@ abbrev pub reading : {X Y : Type 0} → (X → Y) → Result X Wrong → Result 
 reading f (Ok x) = Ok (f x)
 reading f (Err wrong) = Err wrong
 
--- it reads as this, or there was no memory for it
+-- it reads as this, or there was no memory for what it reads as; what is wrong takes none
 abbrev pub ReadAs : {X Y : Type 0} → (X → Y) → Result X Wrong → Result Y Wrong → Type 0
-ReadAs f result wanted = (result ≡ Err NoMemory) ⊎ (reading f result ≡ wanted)
+ReadAs f result wanted = ((result ≡ Err NoMemory) × IsOk wanted) ⊎ (reading f result ≡ wanted)
 
 -- a word that must be a number, bytes, a mode or a cipher
 abbrev pub needs : {X : Type 0} → Wrong → Option X → (X → Reading) → Reading

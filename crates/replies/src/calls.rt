@@ -1,4 +1,4 @@
-ghost use Rattle.std.specs.Prelude.{◌≡◌, length, IfOk, vec_items};
+ghost use Rattle.std.specs.Prelude.{◌≡◌, length, IfOk, IfErr, IsOk, vec_items};
 ghost use Rattle.devices.specs.Device.{answer};
 ghost use Rattle.volumes.specs.Faults.{named};
 ghost use Rattle.volumes.specs.Volume.{view, volume_of, open_answer, after_open, begin_answer, after_begin, after_write_to};
@@ -62,6 +62,7 @@ pub fn read<D: SectorDevice, M: WideMode>(
     sector: u32,
 ) -> Result<Answer<Vec<u8>>, AllocError>
     ensures sector_is_told { IfOk result (λ a. listed vec_items a ≡ read_answer (volume_of M.kind (view D.meaning M.state volume.old)) sector) }
+    ensures only_bytes_take_memory { IfErr result (λ e. IsOk (answer (volume_of M.kind (view D.meaning M.state volume.old)) sector (volume_of M.kind (view D.meaning M.state volume.old)).size)) }
     ensures volume_stays { view D.meaning M.state volume.new ≡ view D.meaning M.state volume.old }
 {
     let size = volume.size() as usize;

@@ -42,17 +42,12 @@ module _ (r : RingKind) where
       ∙ sym (times_blocks r (bit_xor (hash_sum r τ bs) b) τ (xor_lt (8 * r.width) _ _ (hash_sum_below τ bs) below) small)
       ∙ sym (hash_sum_push τ small bs b)
 
-  -- (a + b)·c = a·c + b·c, of blocks
-  pub product_over : (a b c : ℕ) → a < size r → b < size r → c < size r → r.product (bit_xor a b) c ≡ bit_xor (r.product a c) (r.product b c)
-  product_over a b c ha hb hc =
-      r.comm (bit_xor a b) c (xor_lt (8 * r.width) a b ha hb) hc ∙ r.distrib c a b hc ha hb ∙ ap₂ bit_xor (r.comm c a hc ha) (r.comm c b hc hb)
-
   -- the same turn, multiplied out
-  pub turn_multiplied : (τ : ℕ) → τ < size r → (bs : List ℕ) (b : ℕ) → b < size r
+  pub hash_sum_added : (τ : ℕ) → τ < size r → (bs : List ℕ) (b : ℕ) → b < size r
       → hash_sum r τ (bs ++ (b ∷ [])) ≡ bit_xor (r.product (hash_sum r τ bs) τ) (r.product b τ)
-  turn_multiplied τ small bs b below =
-      let sum = hash_sum r τ bs in
-      sym (hash_sum_turns τ sum b (r.product (bit_xor sum b) τ) bs small below refl refl) ∙ product_over sum b τ (hash_sum_below τ bs) below small
+  hash_sum_added τ small bs b below =
+      hash_sum_push τ small bs b ∙ times_over r (hash_sum r τ bs) b τ
+      ∙ ap₂ bit_xor (times_blocks r (hash_sum r τ bs) τ (hash_sum_below τ bs) small) (times_blocks r b τ below small)
 
   pub power_none : (τ : ℕ) → power r τ 0 ≡ 1
   unfolding power

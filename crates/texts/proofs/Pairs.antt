@@ -1,10 +1,12 @@
 -- Reading pairs of digits as `hex` does.
-use Rattle.std.proofs.Common.{◌≡◌, ℕ, zero, suc, ◌+◌, ◌*◌, ◌%◌, ◌<◌, Bool, true, false, ◌&&◌, cond, codes, List, [], ◌∷◌, length, get_or, ◌⊎◌, inl, inr, Some, None, Ok, Err, Option, Result, refl, sym, ap, ◌∙◌, arith}
+use Rattle.std.proofs.Common.{◌≡◌, ℕ, ◌+◌, ◌*◌, ◌%◌, Bool, true, false, ◌&&◌, cond, codes, List, [], ◌∷◌, length, ◌≢◌, ◌⊎◌, inl, inr, Some, None, Ok, Err, Option, Result, refl, sym, ap, ◌∙◌, arith}
 use Rattle.std.specs.Result.{result_ok}
 use Rattle.std.proofs.lemmas.Bool.Decides.{nat_tests}
 use Rattle.hex.specs.Hex.{hex_digit_value, digit_or_error, pair_value, decode_pairs, decode_of, ◌>>=◌}
 use Rattle.hex.specs.declared.error.FromHexError.{FromHexError}
 use Rattle.std.specs.Char.{is_ascii_hexdigit}
+use Rattle.std.specs.List.{list_all}
+use Rattle.std.specs.Option.{is_some, IsSome}
 use Rattle.std.specs.Str.{bytes_eq}
 use Rattle.hex.specs.declared.error.FromHexError.TheVariants.{OutOfMemory}
 use Rattle.texts.specs.Hexadecimal.{digit_value, byte_of, in_front, pairs, bytes_of}
@@ -39,10 +41,6 @@ nothing : (x : Option ℕ) → in_front x None ≡ None
 nothing None = refl
 nothing (Some x) = refl
 
-no_low : (x : Option ℕ) → byte_of x None ≡ None
-no_low None = refl
-no_low (Some x) = refl
-
 half_left : (text : List ℕ) → length text % 2 ≡ 1 → pairs text ≡ None
 unfolding pairs
 half_left [] h = absurd (omega arith)
@@ -63,23 +61,26 @@ pub refused : (text : List ℕ) (fault : FromHexError) → bytes_eq text (codes 
 refused text fault e (inl memory) other = absurd (other memory)
 refused text fault e (inr wrong) other = undashed text e ∙ ap result_ok wrong
 
--- where a byte is no digit, the pairs read as nothing
-stray_byte : (text : List ℕ) (i : ℕ) → i < length text → digit_value (get_or text i 0) ≡ None → pairs text ≡ None
+same_test : (c : ℕ) → is_some (digit_value c) ≡ is_ascii_hexdigit c
+same_test c = grind (arith, nat_tests)
+
+-- a byte is read where both digits are, and bytes where the rest is too
+all_read : (x y : Option ℕ) (bytes : Option (List ℕ)) → is_some (in_front (byte_of x y) bytes) ≡ (is_some x && (is_some y && is_some bytes))
+all_read None y bytes = refl
+all_read (Some x) None bytes = refl
+all_read (Some x) (Some y) None = refl
+all_read (Some x) (Some y) (Some bytes) = refl
+
+-- whole pairs read as bytes exactly where each byte is a digit
+whole : (text : List ℕ) → length text % 2 ≡ 0 → is_some (pairs text) ≡ list_all is_ascii_hexdigit text
 unfolding pairs
-stray_byte [] i h e = absurd (omega arith)
-stray_byte (a ∷ []) i h e = refl
-stray_byte (a ∷ b ∷ cs) zero h e = ap (λ o. in_front (byte_of o (digit_value b)) (pairs cs)) e
-stray_byte (a ∷ b ∷ cs) (suc zero) h e = ap (λ o. in_front (byte_of (digit_value a) o) (pairs cs)) e ∙ ap (λ o. in_front o (pairs cs)) (no_low (digit_value a))
-stray_byte (a ∷ b ∷ cs) (suc (suc i)) h e =
-    ap (in_front (byte_of (digit_value a) (digit_value b))) (stray_byte cs i (omega arith) e) ∙ nothing (byte_of (digit_value a) (digit_value b))
+whole [] even = refl
+whole (a ∷ []) even = absurd (omega arith)
+whole (a ∷ b ∷ cs) even = cc (all_read (digit_value a) (digit_value b) (pairs cs), same_test a, same_test b, whole cs (omega arith))
 
-no_digit : (c : ℕ) → is_ascii_hexdigit c ≡ false → digit_value c ≡ None
-no_digit c e = grind (arith, nat_tests, e)
+-- a word with a byte that is no digit reads as nothing, and whole pairs of digits as bytes
+pub stray : (text : List ℕ) → bytes_eq text (codes "-") ≡ false → list_all is_ascii_hexdigit text ≡ false → bytes_of text ≡ None
+stray text e none = grind (arith, half_left text, whole text)
 
-pub stray : (text : List ℕ) (i : ℕ) → i < length text → is_ascii_hexdigit (get_or text i 0) ≡ false → pairs text ≡ None
-stray text i h e = stray_byte text i h (no_digit (get_or text i 0) e)
-
--- of two tests, whichever fails
-pub either : (a h : Bool) (text : List ℕ) → (a ≡ false → pairs text ≡ None) → (h ≡ false → pairs text ≡ None) → (a && h) ≡ false → pairs text ≡ None
-either false h text p q e = p refl
-either true h text p q e = q e
+pub digits : (text : List ℕ) → bytes_eq text (codes "-") ≡ false → list_all is_ascii_hexdigit text ≡ true → length text % 2 ≢ 1 → IsSome (bytes_of text)
+digits text e all even = grind (arith, whole text)

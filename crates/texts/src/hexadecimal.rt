@@ -1,6 +1,8 @@
-ghost use Rattle.std.specs.Prelude.{◌≡◌, ◌<◌, false, [], ◌∷◌, IfOk, vec_items, Some, None};
+ghost use Rattle.std.specs.Prelude.{◌≡◌, ◌<◌, [], ◌∷◌, IfOk, IfErr, IsSome, vec_items, Some};
+ghost use Rattle.std.specs.Char.{is_ascii_hexdigit};
+ghost use Rattle.std.specs.List.{list_all};
 ghost use Rattle.std.specs.Option.{option_map};
-ghost use Rattle.texts.specs.Hexadecimal.{bytes_of, digit_of, pairs, written};
+ghost use Rattle.texts.specs.Hexadecimal.{bytes_of, digit_of, written};
 
 use hex::FromHexError;
 use std::alloc::{AllocError, Global};
@@ -8,7 +10,7 @@ use std::fmt;
 
 /// Is each byte of a word a hexadecimal digit?
 fn is_hexadecimal(word: &[u8]) -> bool
-    ensures { result ≡ false → pairs word.now ≡ None }
+    ensures { result ≡ list_all is_ascii_hexdigit word.now }
 {
     // Each byte is looked at, whatever came before, so that many are looked at at once.
     let mut all = true;
@@ -19,9 +21,10 @@ fn is_hexadecimal(word: &[u8]) -> bool
 }
 
 /// The bytes that a word stands for. A word that stands for none takes no memory.
-#[tactic(auto, using(crate::proofs::Pairs::undashed, crate::proofs::Pairs::refused))]
+#[tactic(auto, using(crate::proofs::Pairs::undashed, crate::proofs::Pairs::refused, crate::proofs::Pairs::stray, crate::proofs::Pairs::digits))]
 pub fn bytes(heap: Global, word: &[u8]) -> Result<Option<Vec<u8>>, AllocError>
-    ensures { IfOk result (λ o. option_map vec_items o ≡ bytes_of word.now) }
+    ensures bytes_are_read { IfOk result (λ o. option_map vec_items o ≡ bytes_of word.now) }
+    ensures only_bytes_take_memory { IfErr result (λ e. IsSome (bytes_of word.now)) }
 {
     if word == b"-".as_slice() {
         return Ok(Some(Vec::new(heap)));

@@ -1,4 +1,5 @@
-use Rattle.std.proofs.Common.{◌≡◌, ℕ, Bor, List, ◌%◌, ◌<◌, ◌∷◌, [], map, sym, ap, ◌∙◌, subst}
+use Rattle.std.proofs.Common.{◌≡◌, ℕ, Bor, List, ◌%◌, ◌<◌, ◌∷◌, [], map, refl, sym, ap, ◌∙◌, subst}
+use lib.Bits.{bit_xor}
 use Rattle.std.specs.Int.Digits.{number_from_digits, AllBelowBase}
 use Rattle.std.specs.Slice.Iter.{chunks_exact_rest, chunks_exact_size}
 use Rattle.rings.specs.Blocks.{blocks}
@@ -7,7 +8,7 @@ use Rattle.std.proofs.lemmas.List.{map-append}
 use Rattle.rings.specs.Ring.{size}
 use Rattle.rings.specs.Sums.{hash_sum}
 use Rattle.rings.proofs.Chunks.{chunked}
-use Rattle.rings.proofs.Powers.{hash_sum_none, turn_multiplied, product_over}
+use Rattle.rings.proofs.Powers.{hash_sum_none, hash_sum_turns, hash_sum_added}
 use Rattle.rings.proofs.Total.{rest_below}
 use Rattle.rings.proofs.sums.hash_sum.Goals as goal
 
@@ -19,14 +20,16 @@ pub loop-block-preserved : goal.loop-block-preserved
 loop-block-preserved g c =
     let m = g.R.BlockRing in
     let τ = m.value c.args.tau in
-    let small = g.met.R.BlockRing.below in
+    let sum = m.value c.loop-block.sum in
+    let small = g.met.R.BlockRing.below c.args.tau in
     let read = λ (b : Bor (List ℕ)). number_from_digits 256 b.now % size m.ring in
+    let bs = map read c.loop-block.yielded in
     let b = read c.in-Some.block in
     let fits = rest_below m.ring (number_from_digits 256 c.in-Some.block.now) in
     cc (
       map-append read c.loop-block.yielded (c.in-Some.block ∷ []),
-      turn_multiplied m.ring τ (small c.args.tau) (map read c.loop-block.yielded) b fits,
-      product_over m.ring (m.value c.loop-block.sum) b τ (small c.loop-block.sum) fits (small c.args.tau),
+      hash_sum_turns m.ring τ sum b (m.ring.product (bit_xor sum b) τ) bs small fits c.loop-block.invariant refl,
+      hash_sum_added m.ring τ small bs b fits,
     )
 
 pub returns : goal.returns

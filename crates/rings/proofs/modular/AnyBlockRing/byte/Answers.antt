@@ -4,7 +4,7 @@ use Rattle.num_traits.specs.Laws.{bit_len}
 use Rattle.rings.proofs.Bytes.{pow_bytes, byte_past, cast_byte}
 use Rattle.rings.proofs.modular.AnyBlockRing.byte.Goals as goal
 
--- by the facts of the calls; an index that is written with a sum of bits is read too
+-- `xor_zero_r` reads an index that is written as a sum of bits, such as a must-fail edit plants
 pub returns-then-index-width : goal.returns-then-index-width
 returns-then-index-width g c =
     let word = g.T.FixedWidth in
